@@ -5,7 +5,7 @@ use Rattle.std.specs.Prelude.{nat_lt, slice_get, slice_set, if◌then◌else◌}
 use Rattle.std.proofs.lemmas.Option.{slice_get_within}
 use Rattle.topo_order.specs.declared.walk.Mark.{Mark}
 use Rattle.topo_order.specs.declared.walk.Mark.TheVariants.{New, Open, Done}
-use Rattle.topo_order.specs.Needs.{needs_of, Needs, Reaches, itself, by_way}
+use Rattle.topo_order.specs.Needs.{needs_of, AreMutual, Needs, Reaches, itself, by_way}
 use Rattle.topo_order.specs.Inner.Walk.{mark_of, taken_of, GoOn}
 use Rattle.topo_order.specs.Inner.Groups.{position_of, flag_of, IsNotBelow, IsOpenAbove, IsGrouping, Rises, AreJoined, all_done, all_flagged}
 use Rattle.topo_order.proofs.Steps.{mark_of-set, mark_of-set_other, get_pushed, get_start, get_last, new_done, new_open, open_done, done_open}
@@ -26,13 +26,13 @@ take_get (suc n) [] p x h at = cc
 take_get (suc n) (y ∷ xs) zero x h at = at
 take_get (suc n) (y ∷ xs) (suc p) x h at = take_get n xs p x (omega (arith, h)) at
 
-drop_get : (n : ℕ) (xs : List ℕ) (p x : ℕ) → n ≤ p → slice_get xs p ≡ Some x → (q : ℕ) × (slice_get (drop n xs) q ≡ Some x)
+pub drop_get : (n : ℕ) (xs : List ℕ) (p x : ℕ) → n ≤ p → slice_get xs p ≡ Some x → (q : ℕ) × (slice_get (drop n xs) q ≡ Some x)
 drop_get zero xs p x h at = (p, at)
 drop_get (suc n) [] p x h at = cc
 drop_get (suc n) (y ∷ xs) zero x h at = absurd (omega arith)
 drop_get (suc n) (y ∷ xs) (suc p) x h at = drop_get n xs p x (omega (arith, h)) at
 
-get_drop : (n : ℕ) (xs : List ℕ) (q x : ℕ) → slice_get (drop n xs) q ≡ Some x → (p : ℕ) × (n ≤ p) × (slice_get xs p ≡ Some x)
+pub get_drop : (n : ℕ) (xs : List ℕ) (q x : ℕ) → slice_get (drop n xs) q ≡ Some x → (p : ℕ) × (n ≤ p) × (slice_get xs p ≡ Some x)
 get_drop zero xs q x h = (q, omega arith, h)
 get_drop (suc n) [] q x h = cc
 get_drop (suc n) (y ∷ xs) q x h = let (p, low, at) = get_drop n xs q x h in (suc p, omega (arith, low), at)
@@ -105,12 +105,18 @@ pub record Ends (needs : List (List ℕ)) (marks : List Mark) (taken positions p
 abbrev pub flags_after : List ℕ → ℕ → List Bool → List Bool
 flags_after stack b loops = if nat_lt (b + 1) (length stack) then all_flagged (drop b stack) loops else loops
 
-pub record HasEnded (needs : List (List ℕ)) (marks : List Mark) (taken positions front stack starts' : List ℕ) (loops : List Bool) (b : ℕ) : Type 0 where
+pub record HasEnded (needs : List (List ℕ)) (marks : List Mark) (taken positions front stack starts' : List ℕ) (loops : List Bool) (top b : ℕ) : Type 0 where
   pub grouping : IsGrouping needs (all_done (drop b stack) marks) taken positions front (take b stack) starts' (flags_after stack b loops)
   pub on : GoOn marks (all_done (drop b stack) marks)
+  -- what is done was done, or is of this group, which began at `top`
+  pub was : (i : ℕ) → mark_of (all_done (drop b stack) marks) i ≡ Done → (mark_of marks i ≡ Done) ⊎ ((mark_of marks i ≡ Open) × (b ≤ position_of positions i))
+  pub first : mark_of (all_done (drop b stack) marks) top ≡ Done
+  pub with_top : (i : ℕ) → mark_of marks i ≡ Open → b ≤ position_of positions i → AreMutual needs i top
+  -- what was done reaches what was done alone
+  pub far : (i j : ℕ) → Reaches needs i j → mark_of marks i ≡ Done → mark_of marks j ≡ Done
 
 pub ended : (needs : List (List ℕ)) (marks : List Mark) (taken positions path stack starts : List ℕ) (loops : List Bool) (front starts' : List ℕ) (top b : ℕ)
-    → Ends needs marks taken positions path stack starts loops front starts' top b → HasEnded needs marks taken positions front stack starts' loops b
+    → Ends needs marks taken positions path stack starts loops front starts' top b → HasEnded needs marks taken positions front stack starts' loops top b
 ended needs marks taken positions path stack starts loops front starts' top b e = record {
   grouping = record {
     marks_size = length-all_done (drop b stack) marks ∙ g.marks_size;
@@ -134,6 +140,10 @@ ended needs marks taken positions path stack starts loops front starts' top b e 
     free = λ i h unset. free (nat_lt (b + 1) (length stack)) refl i h unset (where_is i);
   };
   on = record { done = λ i h. kept i (not_there i (λ o. open_done (sym o ∙ h))) ∙ h; begun = λ i h. met i h (where_is i) };
+  was = λ i h. was_done i h (where_is i);
+  first = closed top top_open (omega (arith, e.begins_at));
+  with_top = λ i h far. with_top i h far (order_of b (position_of positions i));
+  far = done_far;
 }
   where
     g : IsGrouping needs marks taken positions path stack starts loops
@@ -226,6 +236,11 @@ ended needs marks taken positions path stack starts loops front starts' top b e 
     was_met i h (inl w) n = new_open (sym n ∙ w.0)
     was_met i h (inr none) n = h (kept i none ∙ n)
 
+    was_done : (i : ℕ) → mark_of (all_done (drop b stack) marks) i ≡ Done → ((mark_of marks i ≡ Open) × (b ≤ position_of positions i)) ⊎ ((p : ℕ) → b ≤ p → slice_get stack p ≢ Some i)
+        → (mark_of marks i ≡ Done) ⊎ ((mark_of marks i ≡ Open) × (b ≤ position_of positions i))
+    was_done i h (inl w) = inr w
+    was_done i h (inr none) = inl (sym (kept i none) ∙ h)
+
     open_on : (i : ℕ) → mark_of (all_done (drop b stack) marks) i ≡ Open → ((mark_of marks i ≡ Open) × (b ≤ position_of positions i)) ⊎ ((p : ℕ) → b ≤ p → slice_get stack p ≢ Some i)
         → slice_get (take b stack) (position_of positions i) ≡ Some i
     open_on i h (inl w) = absurd (open_done (sym h ∙ closed i w.0 w.1))
@@ -309,6 +324,13 @@ ended needs marks taken positions path stack starts loops front starts' top b e 
         split (inl more) = let (j, there) = get_some stack b (omega (arith, many)) in let w = both b (position_of positions i) j i more (omega arith) there at in joined needs i j i w.1 w.0
         split (inr (inl same)) = let (j, there) = get_some stack (b + 1) many in let w = both (position_of positions i) (b + 1) i j (omega (arith, same)) far at there in joined needs i j i w.0 w.1
         split (inr (inr less)) = absurd (omega (arith, less, far))
+
+    with_top : (i : ℕ) → mark_of marks i ≡ Open → b ≤ position_of positions i → (b < position_of positions i) ⊎ ((b ≡ position_of positions i) ⊎ (position_of positions i < b)) → AreMutual needs i top
+    with_top i h far (inl more) =
+        let w = both (position_of positions top) (position_of positions i) top i (omega (arith, more, e.begins_at)) (omega (arith, e.begins_at)) (g.open_on top top_open) (g.open_on i h) in
+        inr (w.1, w.0)
+    with_top i h far (inr (inl same)) = inl (stands_once stack (position_of positions i) (position_of positions top) i top (omega (arith, same, e.begins_at)) (g.open_on i h) (g.open_on top top_open))
+    with_top i h far (inr (inr less)) = absurd (omega (arith, less, far))
 
     sound : (many : Bool) → nat_lt (b + 1) (length stack) ≡ many → (i : ℕ) → flag_of (if many then all_flagged (drop b stack) loops else loops) i ≡ true
         → ((mark_of marks i ≡ Open) × (b ≤ position_of positions i)) ⊎ ((p : ℕ) → b ≤ p → slice_get stack p ≢ Some i) → Reaches needs i i

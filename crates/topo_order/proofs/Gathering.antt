@@ -1,5 +1,5 @@
 -- The kinds of step, as the code makes them.
-use Rattle.std.proofs.Common.{◌≡◌, ◌≢◌, ℕ, suc, ◌+◌, ◌*◌, ◌<◌, ◌≤◌, ◌==◌, Bool, true, false, List, [], ◌∷◌, ◌++◌, length, length-append, get_or, take, drop, refl, sym, ap, ◌∙◌, subst, ◌⊎◌, inl, inr, Some, None, All, arith}
+use Rattle.std.proofs.Common.{◌≡◌, ◌≢◌, ℕ, suc, ◌+◌, ◌-◌, ◌*◌, ◌<◌, ◌≤◌, ◌==◌, Bool, true, false, List, [], ◌∷◌, ◌++◌, length, length-append, get_or, take, drop, refl, sym, ap, ◌∙◌, subst, ◌⊎◌, inl, inr, Some, None, All, arith}
 use Rattle.std.proofs.lemmas.Bool.{eqb-true, eq-eqb}
 use Rattle.std.proofs.lemmas.List.Elements.{All-nil, All-cons}
 use Rattle.std.specs.Prelude.{slice_get, slice_set, unwrap_or, replicate, MatchBool, if◌then◌else◌}
@@ -183,7 +183,7 @@ met_open needs marks taken positions path stack starts loops front top child at 
 
 -- ---- the last thing on the path is left
 
-all_within : (stack : List ℕ) (n : ℕ) → ((p i : ℕ) → slice_get stack p ≡ Some i → i < n) → All (λ i. i < n) stack
+pub all_within : (stack : List ℕ) (n : ℕ) → ((p i : ℕ) → slice_get stack p ≡ Some i → i < n) → All (λ i. i < n) stack
 all_within [] n h = All-nil (λ i. i < n)
 all_within (x ∷ xs) n h = All-cons (λ i. i < n) x xs (h 0 x refl) (all_within xs n (λ p i at. h (suc p) i at))
 
@@ -204,6 +204,16 @@ ends_somewhere : (xs : List ℕ) (p x : ℕ) → slice_get xs p ≡ Some x → (
 ends_somewhere [] p x h = cc
 ends_somewhere (y ∷ []) p x h = ([], y, refl)
 ends_somewhere (y ∷ z ∷ xs) p x h = let (front, last, e) = ends_somewhere (z ∷ xs) 0 z refl in (y ∷ front, last, ap (λ t. y ∷ t) e)
+
+-- the last of a list
+pub last_is : (xs : List ℕ) (x : ℕ) → slice_get xs (length xs - 1) ≡ Some x → (front : List ℕ) × (xs ≡ front ++ x ∷ [])
+last_is xs x h =
+    let (front, last, e) = ends_somewhere xs (length xs - 1) x h in
+    let at : slice_get xs (length front) ≡ Some last = ap (λ (ys : List ℕ). slice_get ys (length front)) e ∙ get_last front last in
+    let place : length xs - 1 ≡ length front = omega (arith, ap length e, length-append front (last ∷ [])) in
+    let both : Some last ≡ Some x = sym at ∙ ap (slice_get xs) (sym place) ∙ h in
+    let same : last ≡ x = cc in
+    (front, e ∙ ap (λ (y : ℕ). front ++ y ∷ []) same)
 
 pub left_plain : (needs : List (List ℕ)) (marks : List Mark) (taken positions path stack starts : List ℕ) (loops : List Bool) (front : List ℕ) (top : ℕ)
     → IsGrouping needs marks taken positions path stack starts loops → path ≡ front ++ top ∷ []
@@ -231,7 +241,7 @@ left_plain needs marks taken positions path stack starts loops front top g is no
 pub left_closed : (needs : List (List ℕ)) (marks : List Mark) (taken positions path stack starts : List ℕ) (loops : List Bool) (front starts' : List ℕ) (top at : ℕ)
     → IsGrouping needs marks taken positions path stack starts loops → path ≡ front ++ top ∷ []
     → slice_get (needs_of needs top) (taken_of taken top) ≡ None → starts ≡ starts' ++ at ∷ [] → at ≡ position_of positions top
-    → HasEnded needs marks taken positions front stack starts' loops at
+    → HasEnded needs marks taken positions front stack starts' loops top at
 left_closed needs marks taken positions path stack starts loops front starts' top at g is none begins place =
     ended needs marks taken positions path stack starts loops front starts' top at
     (record { grouping = g; path_is = is; starts_is = begins; begins_at = sym place; all = all_taken needs taken top none })

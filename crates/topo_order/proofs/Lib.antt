@@ -10,3 +10,5 @@ pub mod Grouping
 pub mod Closing
 -- the steps as the code makes them
 pub mod Gathering
+-- the numbers of the groups
+pub mod Numbering

@@ -4,3 +4,5 @@ pub mod Walk
 pub mod Work
 -- a walk that gathers what it meets into groups
 pub mod Groups
+-- what the groups are called
+pub mod Numbers

@@ -1,11 +1,12 @@
-//! Which things need themselves.
+//! Which things need themselves, and which need one another.
 
 ghost use Rattle.std.specs.Prelude.{◌≡◌, ◌≢◌, ◌<◌, ◌≤◌, ◌^◌, ◌++◌, ◌∷◌, ◌+◌, ◌*◌, [], List, ℕ, Bool, true, false, nat_lt, length, replicate, take, slice_get, slice_set, Some, None, IfOk, OnOk, OnSome, MatchBool, All, drop, ◌==◌, if◌then◌else◌};
 ghost use Rattle.topo_order.specs.declared.walk.Mark.TheVariants.{New, Open, Done};
-ghost use Rattle.topo_order.specs.Needs.{AreClosed, Needs, needs_of, Reaches};
+ghost use Rattle.topo_order.specs.Needs.{AreClosed, AreGroups, Needs, needs_of, Reaches};
 ghost use Rattle.topo_order.specs.Inner.Walk.{mark_of, taken_of, StayDone, GoOn};
 ghost use Rattle.topo_order.specs.Inner.Work.{needs_left};
 ghost use Rattle.topo_order.specs.Inner.Groups.{IsGroups, IsNoLast, Rises, AreJoined, all_done, all_flagged};
+ghost use Rattle.topo_order.specs.Inner.Numbers.{AreNumbered, all_numbered};
 
 use crate::walk::Mark;
 use sqlite_items::Items;
@@ -21,11 +22,21 @@ pub fn needing_themselves(alloc: Global, needs: &[Items<u32>]) -> Result<Vec<boo
     ensures loops { IfOk result (λ loops. (i : ℕ) (does : Bool) → slice_get loops.items i ≡ Some does
         → MatchBool does (Reaches needs.now i i) (¬ (Reaches needs.now i i))) }
 {
-    let mut groups = Groups::new(alloc, needs.len())?;
-    for thing in 0..needs.len() as u32 {
-        groups.go_on(needs, thing)?;
-    }
+    let groups = Groups::of(alloc, needs)?;
     Ok(groups.loops)
+}
+
+/// Of each thing its group: things have one where each needs the other, by way of others or not, and only there. It is one of
+/// the things in it.
+///
+/// `needs[i]` lists what thing i needs. It takes time and memory linear in the things and needs, and doesn't recurse.
+pub fn groups_of(alloc: Global, needs: &[Items<u32>]) -> Result<Vec<u32>, AllocError>
+    requires closed { AreClosed needs.now }
+    requires few { length needs.now < 2 ^ 32 }
+    ensures { IfOk result (λ groups. AreGroups needs.now groups.items) }
+{
+    let groups = Groups::of(alloc, needs)?;
+    Ok(groups.numbers)
 }
 
 /// A walk over needs that gathers what it meets into groups, in each of which each thing needs each other, by way of others
@@ -45,9 +56,26 @@ pub struct Groups {
     pub starts: Vec<usize>,
     /// Whether it is known to need itself, of each thing.
     pub loops: Vec<bool>,
+    /// The thing at which its group began, of each thing that is done.
+    pub numbers: Vec<u32>,
 }
 
 impl Groups {
+    /// The walk when it has done with all things.
+    fn of(alloc: Global, needs: &[Items<u32>]) -> Result<Groups, AllocError>
+        requires closed { AreClosed needs.now }
+        requires few { length needs.now < 2 ^ 32 }
+        ensures walk { IfOk result (λ g. IsGroups needs.now g) }
+        ensures numbers { IfOk result (λ g. AreNumbered needs.now g) }
+        ensures done { IfOk result (λ g. (i : ℕ) → i < length needs.now → mark_of g.marks.items i ≡ Done) }
+    {
+        let mut groups = Groups::new(alloc, needs.len())?;
+        for thing in 0..needs.len() as u32 {
+            groups.go_on(needs, thing)?;
+        }
+        Ok(groups)
+    }
+
     /// A walk over so many things, before its first step.
     pub fn new(alloc: Global, count: usize) -> Result<Groups, AllocError>
         ensures marks { IfOk result (λ g. g.marks.items ≡ replicate count New) }
@@ -57,6 +85,7 @@ impl Groups {
         ensures stack { IfOk result (λ g. g.stack.items ≡ []) }
         ensures starts { IfOk result (λ g. g.starts.items ≡ []) }
         ensures loops { IfOk result (λ g. g.loops.items ≡ replicate count false) }
+        ensures numbers { IfOk result (λ g. g.numbers.items ≡ replicate count 0) }
     {
         Ok(Groups {
             marks: vec![in alloc; Mark::New; count]?,
@@ -66,16 +95,19 @@ impl Groups {
             stack: Vec::new(alloc),
             starts: Vec::new(alloc),
             loops: vec![in alloc; false; count]?,
+            numbers: vec![in alloc; 0; count]?,
         })
     }
 
     /// Has done with a thing and all that it reaches, if it hasn't yet.
     fn go_on(&mut self, needs: &[Items<u32>], thing: u32) -> Result<(), AllocError>
         requires walk { IsGroups needs.now self.old }
+        requires numbers { AreNumbered needs.now self.old }
         requires closed { AreClosed needs.now }
         requires empty { self.old.path.items ≡ [] }
         requires inside { thing < length needs.now }
         ensures walk { OnOk result (IsGroups needs.now self.new) }
+        ensures numbers { OnOk result (AreNumbered needs.now self.new) }
         ensures empty { OnOk result (self.new.path.items ≡ []) }
         ensures done { OnOk result (mark_of self.new.marks.items thing ≡ Done) }
         ensures more { OnOk result (StayDone self.old.marks.items self.new.marks.items) }
@@ -92,11 +124,13 @@ impl Groups {
     /// Goes on from a new thing until the path is empty again: then all that it reaches is done.
     pub fn visit(&mut self, needs: &[Items<u32>], root: u32) -> Result<(), AllocError>
         requires walk { IsGroups needs.now self.old }
+        requires numbers { AreNumbered needs.now self.old }
         requires closed { AreClosed needs.now }
         requires empty { self.old.path.items ≡ [] }
         requires inside { root < length needs.now }
         requires new { mark_of self.old.marks.items root ≡ New }
         ensures walk { OnOk result (IsGroups needs.now self.new) }
+        ensures numbers { OnOk result (AreNumbered needs.now self.new) }
         ensures empty { OnOk result (self.new.path.items ≡ []) }
         ensures done { OnOk result (mark_of self.new.marks.items root ≡ Done) }
         ensures more { OnOk result (StayDone self.old.marks.items self.new.marks.items) }
@@ -111,9 +145,11 @@ impl Groups {
     /// One step from the last thing on the path: to the next thing that it needs, or back where it has all.
     fn step(&mut self, needs: &[Items<u32>], top: u32) -> Result<(), AllocError>
         requires walk { IsGroups needs.now self.old }
+        requires numbers { AreNumbered needs.now self.old }
         requires closed { AreClosed needs.now }
         requires last { (front : List ℕ) × (self.old.path.items ≡ front ++ top ∷ []) }
         ensures walk { OnOk result (IsGroups needs.now self.new) }
+        ensures numbers { OnOk result (AreNumbered needs.now self.new) }
         ensures marks { OnOk result (GoOn self.old.marks.items self.new.marks.items) }
         ensures less { OnOk result (
             2 * needs_left needs.now self.new.taken.items + length self.new.path.items
@@ -132,11 +168,13 @@ impl Groups {
     /// it on where it is open.
     fn meet(&mut self, needs: &[Items<u32>], top: u32, child: u32) -> Result<(), AllocError>
         requires walk { IsGroups needs.now self.old }
+        requires numbers { AreNumbered needs.now self.old }
         requires inside { child < length needs.now }
         requires last { (front : List ℕ) × (self.old.path.items ≡ front ++ top ∷ []) }
         requires next { slice_get (needs_of needs.now top) (taken_of self.old.taken.items top) ≡ Some child }
         requires room { taken_of self.old.taken.items top + 1 < 2 ^ 64 }
         ensures walk { OnOk result (IsGroups needs.now self.new) }
+        ensures numbers { OnOk result (AreNumbered needs.now self.new) }
         ensures marks { OnOk result (GoOn self.old.marks.items self.new.marks.items) }
         ensures less { OnOk result (
             2 * needs_left needs.now self.new.taken.items + length self.new.path.items
@@ -161,9 +199,11 @@ impl Groups {
     /// Leaves the last thing on the path, which has no more needs. Where a group begins at it, the group is done.
     fn leave(&mut self, needs: &[Items<u32>], top: u32)
         requires walk { IsGroups needs.now self.old }
+        requires numbers { AreNumbered needs.now self.old }
         requires last { (front : List ℕ) × (self.old.path.items ≡ front ++ top ∷ []) }
         requires all { slice_get (needs_of needs.now top) (taken_of self.old.taken.items top) ≡ None }
         ensures walk { IsGroups needs.now self.new }
+        ensures numbers { AreNumbered needs.now self.new }
         ensures marks { GoOn self.old.marks.items self.new.marks.items }
         ensures taken { self.new.taken.items ≡ self.old.taken.items }
         ensures path { self.old.path.items ≡ self.new.path.items ++ top ∷ [] }
@@ -171,15 +211,17 @@ impl Groups {
         pop_top(&mut self.path, top);
         let at = self.positions[top as usize];
         if ends_at(&mut self.starts, at) {
-            self.close(at);
+            self.close(at, top);
         }
     }
 
-    /// Has done with the things from this position of the stack on. Where there are two or more, each needs itself.
-    fn close(&mut self, from: usize)
+    /// Has done with the things from this position of the stack on, the group that began at the first one. Where there are two
+    /// or more, each needs itself.
+    fn close(&mut self, from: usize, first: u32)
         requires within { from ≤ length self.old.stack.items }
         requires marks { All (λ i. i < length self.old.marks.items) self.old.stack.items }
         requires loops { All (λ i. i < length self.old.loops.items) self.old.stack.items }
+        requires numbers { All (λ i. i < length self.old.numbers.items) self.old.stack.items }
         ensures marks { self.new.marks.items ≡ all_done (drop from self.old.stack.items) self.old.marks.items }
         ensures taken { self.new.taken.items ≡ self.old.taken.items }
         ensures positions { self.new.positions.items ≡ self.old.positions.items }
@@ -188,11 +230,13 @@ impl Groups {
         ensures starts { self.new.starts.items ≡ self.old.starts.items }
         ensures loops { self.new.loops.items ≡ (if nat_lt (from + 1) (length self.old.stack.items)
             then all_flagged (drop from self.old.stack.items) self.old.loops.items else self.old.loops.items) }
+        ensures numbers { self.new.numbers.items ≡ all_numbered (drop from self.old.stack.items) first self.old.numbers.items }
     {
         let group = &self.stack[from..];
         if 1 < group.len() {
             flag(&mut self.loops, group);
         }
+        number(&mut self.numbers, group, first);
         finish(&mut self.marks, group);
         self.stack.truncate(from);
     }
@@ -208,6 +252,7 @@ impl Groups {
         ensures stack { OnOk result (self.new.stack.items ≡ self.old.stack.items ++ thing ∷ []) }
         ensures starts { OnOk result (self.new.starts.items ≡ self.old.starts.items ++ length self.old.stack.items ∷ []) }
         ensures loops { OnOk result (self.new.loops.items ≡ self.old.loops.items) }
+        ensures numbers { OnOk result (self.new.numbers.items ≡ self.old.numbers.items) }
     {
         let at = self.stack.len();
         self.marks[thing as usize] = Mark::Open;
@@ -322,5 +367,15 @@ fn flag(loops: &mut Vec<bool>, things: &[u32])
 {
     for thing in things {
         loops[*thing as usize] = true;
+    }
+}
+
+/// Notes of things that their group began at this one.
+fn number(numbers: &mut Vec<u32>, things: &[u32], first: u32)
+    requires { All (λ i. i < length numbers.old.items) things.now }
+    ensures { numbers.new.items ≡ all_numbered things.now first numbers.old.items }
+{
+    for thing in things {
+        numbers[*thing as usize] = first;
     }
 }

@@ -1,6 +1,7 @@
 use Rattle.std.proofs.Common.{◌∙◌, sym}
 use Rattle.topo_order.proofs.Gathering.{met_new, met_open, met_done, place_read}
 use Rattle.topo_order.proofs.Grouping.{inside_places}
+use Rattle.topo_order.proofs.Numbering.{numbering_met}
 use Rattle.topo_order.proofs.groups.Groups.meet.Goals as goal
 
 pub returns-in_ok-enter-in-New-clause-walk : goal.returns-in_ok-enter-in-New-clause-walk
@@ -10,6 +11,12 @@ returns-in_ok-enter-in-New-clause-walk c =
     c.enter.new.self.marks.items c.enter.new.self.taken.items c.enter.new.self.positions.items c.enter.new.self.path.items c.enter.new.self.stack.items c.enter.new.self.starts.items c.enter.new.self.loops.items
     c.requires.walk c.requires.last.1 c.requires.inside c.requires.next (sym c.mark.ensures ∙ c.in-New.is)
     told.marks (told.taken ∙ c.take.ensures) told.positions told.path told.stack told.starts told.loops).grouping
+
+pub returns-in_ok-enter-in-New-clause-numbers : goal.returns-in_ok-enter-in-New-clause-numbers
+returns-in_ok-enter-in-New-clause-numbers c =
+    let told = c.in_ok-enter-in-New.ensures in
+    numbering_met c.args.needs.now c.args.self.now.marks.items c.args.self.now.numbers.items c.args.child c.enter.new.self.marks.items c.enter.new.self.numbers.items
+    c.requires.numbers c.requires.walk.marks_size c.requires.inside (sym c.mark.ensures ∙ c.in-New.is) told.marks told.numbers
 
 pub returns-in_ok-enter-in-New-clause-marks : goal.returns-in_ok-enter-in-New-clause-marks
 returns-in_ok-enter-in-New-clause-marks c =

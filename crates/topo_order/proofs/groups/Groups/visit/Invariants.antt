@@ -4,11 +4,13 @@ use Rattle.topo_order.specs.declared.walk.Mark.TheVariants.{New}
 use Rattle.topo_order.specs.Inner.Walk.{mark_of, StayDone}
 use Rattle.topo_order.specs.Inner.Work.{needs_left}
 use Rattle.topo_order.specs.Inner.Groups.{IsGroups}
+use Rattle.topo_order.specs.Inner.Numbers.{AreNumbered}
 use Rattle.topo_order.proofs.groups.Groups.visit.Given as goal
 
 abbrev pub invariant-loop-top : goal.invariant-loop-top
 invariant-loop-top l = record {
   walk : IsGroups l.needs l.self;
+  numbers : AreNumbered l.needs l.self;
   begun : mark_of l.self.marks.items l.root ≢ New;
   done : StayDone l.fn.self.marks.items l.self.marks.items;
 }

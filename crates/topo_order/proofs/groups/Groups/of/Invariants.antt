@@ -3,11 +3,13 @@ use Rattle.std.proofs.Common.{◌≡◌, ◌<◌, ℕ, []}
 use Rattle.topo_order.specs.declared.walk.Mark.TheVariants.{Done}
 use Rattle.topo_order.specs.Inner.Walk.{mark_of}
 use Rattle.topo_order.specs.Inner.Groups.{IsGroups}
-use Rattle.topo_order.proofs.groups.needing_themselves.Given as goal
+use Rattle.topo_order.specs.Inner.Numbers.{AreNumbered}
+use Rattle.topo_order.proofs.groups.Groups.of.Given as goal
 
 abbrev pub invariant-loop-thing : goal.invariant-loop-thing
 invariant-loop-thing l = record {
   walk : IsGroups l.needs l.groups;
+  numbers : AreNumbered l.needs l.groups;
   empty : l.groups.path.items ≡ [];
   done : (i : ℕ) → i < l.thing → mark_of l.groups.marks.items i ≡ Done;
 }
