@@ -12,6 +12,8 @@ pub mod OfControl
 pub mod Joined
 -- what mentions no proc
 pub mod NoProcs
+-- parametrics by the values before them
+pub mod Parametrics
 -- items, by chains of items
 pub mod OfItems
 -- chains that are long enough

@@ -12,7 +12,6 @@ use Rattle.dslx_meaning.specs.Items.{item_named, name_of_field, as_struct}
 use Rattle.dslx_meaning.specs.declared.ty.DslxType.{DslxType, out-DslxType}
 use Rattle.dslx_meaning.specs.declared.ty.DslxType as ty
 use Rattle.dslx_meaning.specs.declared.ty.DslxType.TheOpen.{DslxType-F}
-use Rattle.dslx_meaning.specs.Rules.Mentions.{is_cyclic}
 use Rattle.dslx_meaning.specs.Rules.TypeEnvs.{TypeEnv, Judgement, ExprPair, breaks, breaks_if, unlimited, settled, span_of, untyped_of, alone, within, no_token, faults_of_all, reached_of_all, size_of_all, types_of, plus_size, one_and}
 use Rattle.dslx_meaning.specs.Rules.Typings.{FieldSeen}
 use Rattle.dslx_meaning.specs.Rules.ConstantRules.{untyped_typing, is_empty, is_unsigned}
@@ -146,10 +145,16 @@ pair_alone context e = let j = within context e in if_pair j j.ty
     if_pair j None = j
     if_pair j (Some t) = if is_some_tuple (out-DslxType t) then j else no_token (span_of e) j
 
+-- what is taken apart by a number: a receive's pair by 0 and 1 alone
+abbrev pub pair_or_alone : ℕ → TypeEnv → ExprPair → Judgement
+pair_or_alone zero context e = pair_alone context e
+pair_or_alone (suc zero) context e = pair_alone context e
+pair_or_alone (suc (suc k)) context e = alone context e
+
 -- rule 19: no such part
 abbrev pub tuple_element_typing : Span → TypeEnv → ExprPair → ℕ → Judgement
 tuple_element_typing span context e k =
-    let whole = pair_alone context e in
+    let whole = pair_or_alone k context e in
     settled span (and_then whole.ty (λ t. part_type t k)) (whole.faults ++ unless_type (λ t. is_there (part_type t k)) rule.PART_IS_THERE span whole.ty)
     whole.reached (one_and whole.size)
 
@@ -202,7 +207,7 @@ struct_with span context name fields others struct declared =
     let rest = others_typing context struct others in
     let names = map name_of_field declared.fields in
     settled span (when_all (rest.ty ∷ types_of js) struct)
-    (breaks_if (is_cyclic context.known.whole context.owner name.name) rule.NO_ITEM_REACHES_ITSELF name.span ++ faults_of_all js ++ rest.faults ++ unknown_fields names fields
+    (breaks_if (context.known.is_cyclic context.owner name.name) rule.NO_ITEM_REACHES_ITSELF name.span ++ faults_of_all js ++ rest.faults ++ unknown_fields names fields
     ++ breaks_if (has_twice (written_fields fields) || lacks_one names (written_fields fields) (is_there others)) rule.STRUCT_FIELDS span)
     (reached_of_all js ++ rest.reached) (one_and (plus_size (size_of_all js) rest.size))
 

@@ -15,19 +15,18 @@ use Rattle.dslx_tree.specs.declared.process.Direction.{Direction}
 use Rattle.dslx_tree.specs.declared.process.Direction.TheVariants.{In, Out}
 use Rattle.dslx_meaning.specs.Lists.{and_then, with_both, is_in}
 use Rattle.dslx_meaning.specs.Callees.{CallKind, Joins, Receives, ReceivesIf, Sends, SendsIf, CountsLeading, CountsTrailing, Reverses, Updates, Calls}
-use Rattle.dslx_meaning.specs.Types.{same_type, bool_type, unit_type, is_unit, is_token_type, holds_token, received}
+use Rattle.dslx_meaning.specs.Types.{same_type, bool_type, is_token_type, holds_token, received}
 use Rattle.dslx_meaning.specs.Values.{type_of_value}
 use Rattle.dslx_meaning.specs.Operators.{number_value}
-use Rattle.dslx_meaning.specs.Environment.{Given}
 use Rattle.dslx_meaning.specs.Inference.{Inferred, inferred_in, Naming, Nil}
-use Rattle.dslx_meaning.specs.Items.{item_named, as_function, with_number}
+use Rattle.dslx_meaning.specs.Items.{item_named, as_function}
 use Rattle.dslx_meaning.specs.declared.ty.DslxType.{DslxType}
 use Rattle.dslx_meaning.specs.declared.ty.DslxType as ty
 use Rattle.dslx_meaning.specs.declared.value.DslxValue.{DslxValue}
-use Rattle.dslx_meaning.specs.Rules.Mentions.{is_cyclic}
-use Rattle.dslx_meaning.specs.Rules.TypeEnvs.{GlobalEnv, Instance, ChannelEnd, TypeEnv, Judgement, ExprPair, breaks, breaks_if, settled, has_broken, span_of, name_of_expr, within, alone, all_alone, faults_of_all, reached_of_all, size_of_all, types_of, plus_size, one_and, typed_in}
+use Rattle.dslx_meaning.specs.Rules.TypeEnvs.{GlobalEnv, Signature, Instance, ChannelEnd, TypeEnv, Judgement, ExprPair, breaks, breaks_if, settled, has_broken, span_of, name_of_expr, within, alone, all_alone, faults_of_all, reached_of_all, size_of_all, types_of, plus_size, one_and, typed_in}
 use Rattle.dslx_meaning.specs.Rules.Typings.{ArgPair}
-use Rattle.dslx_meaning.specs.Rules.ConstantRules.{ConstantSeen, constant_of, is_empty, is_unsigned}
+use Rattle.dslx_meaning.specs.Rules.ConstantRules.{ConstantSeen, constant_of, is_unsigned}
+use Rattle.dslx_meaning.specs.Rules.TypeRules.{unless_unit}
 use Rattle.dslx_meaning.specs.Rules.OperatorRules.{unless_type, is_bits, is_bool}
 use Rattle.dslx_meaning.specs.Rules.AggregateRules.{wanted_faults, is_array, array_in, element_type, when_all}
 use Rattle.dslx_meaning.specs.Rules.RuleNumbers as rule
@@ -107,23 +106,23 @@ in_type (Some t) n = or_wrong (number_value t (record { is_negative = false; val
 abbrev pub of_type : Option DslxType → Option DslxValue → Option DslxValue
 of_type t v = with_both t v (λ t v. if same_type t (type_of_value v) then Some v else None)
 
--- the parametrics before one: those with values, and the names of those of which no value is known
+-- the parametrics before one, the last one first: their values, and whether all are known
 pub record Before : Type 0 where
-  pub values : List Given
-  pub unknown : List (List ℕ)
+  pub values : List (Option DslxValue)
+  pub are_known : Bool
 
 -- where all have values
-abbrev pub known_before : List Given → Before
-known_before values = record { values = values; unknown = [] }
+abbrev pub known_before : List (Option DslxValue) → Before
+known_before values = record { values = values; are_known = true }
 
-abbrev pub and_parametric : Before → Parametric → Resolved → Before
-and_parametric before p (Number v) = record before { values = with_number before.values p v }
-and_parametric before p Unknown = record before { unknown = p.name.name ∷ before.unknown }
-and_parametric before p Wrong = record before { unknown = p.name.name ∷ before.unknown }
+abbrev pub and_parametric : Before → Resolved → Before
+and_parametric before (Number v) = record before { values = Some v ∷ before.values }
+and_parametric before Unknown = record { values = None ∷ before.values; are_known = false }
+and_parametric before Wrong = record { values = None ∷ before.values; are_known = false }
 
--- the type that is declared for a parametric, an argument or an end, where () is none
-abbrev pub declared_type : GlobalEnv → List ℕ → Before → TypeExpr → Option DslxType
-declared_type known owner before t = and_then (known.type_in owner before.values before.unknown t) (λ t. if is_unit t then None else Some t)
+-- the type that is declared for the parametric behind these, where () is none
+abbrev pub parametric_type : GlobalEnv → List ℕ → Before → Option DslxType
+parametric_type known owner before = unless_unit (known.parameter_in owner before.values).ty
 
 -- the typing of another declaration: what it breaks and passes there, and the instances that it reaches
 pub record JudgedThere : Type 0 where
@@ -137,10 +136,10 @@ abbrev pub and_there : JudgedThere → JudgedThere → JudgedThere
 and_there a b = record { faults = a.faults ++ b.faults; reached = a.reached ++ b.reached }
 
 -- the typing of a parametric's type at a call, up to the first parametric without a value
-abbrev pub type_there : GlobalEnv → List ℕ → Before → Parametric → JudgedThere
-type_there known owner before p =
-    if is_empty before.unknown
-    then record { faults = (known.type_seen_in owner before.values p.ty).faults; reached = (known.type_seen_in owner before.values p.ty).reached }
+abbrev pub type_there : GlobalEnv → List ℕ → Before → JudgedThere
+type_there known owner before =
+    if before.are_known
+    then record { faults = (known.parameter_in owner before.values).faults; reached = (known.parameter_in owner before.values).reached }
     else nothing_there
 
 -- a parametric that isn't given, with the typing of its default where that is used
@@ -151,9 +150,9 @@ pub record NotGiven : Type 0 where
 abbrev pub without_default : Resolved → NotGiven
 without_default r = record { value = r; typing = nothing_there }
 
-abbrev pub default_there : GlobalEnv → List ℕ → List Given → Option DslxType → Expr → NotGiven
+abbrev pub default_there : GlobalEnv → List ℕ → List (Option DslxValue) → Option DslxType → Expr → NotGiven
 default_there known owner values t e =
-    let default = known.default_in owner values e in
+    let default = known.default_in owner values in
     record {
       value = resolved_value (of_type t default.value);
       typing = record { faults = default.judgement.faults ++ wanted_faults (out-Expr e).span t default.judgement.ty; reached = default.judgement.reached };
@@ -162,12 +161,13 @@ default_there known owner values t e =
 -- behind a parametric without a value no default is looked at
 abbrev pub default_value : GlobalEnv → List ℕ → Before → Option DslxType → Option Expr → NotGiven
 default_value known owner before t None = without_default Wrong
-default_value known owner before t (Some e) = if is_empty before.unknown then default_there known owner before.values t e else without_default Unknown
+default_value known owner before t (Some e) = if before.are_known then default_there known owner before.values t e else without_default Unknown
 
--- inferred, if that is one number, or else the default
+-- inferred, if that is one number, or else the default. Where an operand without a type might give it, nothing is known of it
 abbrev pub not_given : GlobalEnv → List ℕ → Before → Parametric → Option DslxType → Bool → List ℕ → NotGiven
-not_given known owner before p t maybe [] = if maybe then without_default Unknown else default_value known owner before t p.default
-not_given known owner before p t maybe (n ∷ ns) = without_default (if list_all (λ k. k == n) ns then in_type t n else Wrong)
+not_given known owner before p t true ns = without_default Unknown
+not_given known owner before p t false [] = default_value known owner before t p.default
+not_given known owner before p t false (n ∷ ns) = without_default (if list_all (λ k. k == n) ns then in_type t n else Wrong)
 
 -- the parametrics of a call or a spawn: the values where all are known, those that are, whether rule 10 is broken, rule 9
 -- at what is given, and the typing of the other declaration
@@ -199,14 +199,14 @@ abbrev pub parametric_args_seen : GlobalEnv → List ℕ → List Inferred → L
 parametric_args_seen known owner inferred maybe before [] [] = record { values = Some []; bound = before; is_wrong = false; faults = []; declared = nothing_there }
 parametric_args_seen known owner inferred maybe before [] (g ∷ gs) = record { values = None; bound = before; is_wrong = true; faults = []; declared = nothing_there }
 parametric_args_seen known owner inferred maybe before (p ∷ ps) (g ∷ gs) =
-    let t = declared_type known owner before p.ty in
+    let t = parametric_type known owner before in
     let r = resolved_value (of_type t g.seen.value) in
-    number_before r (wanted_faults g.span t g.seen.judgement.ty) (type_there known owner before p)
-    (parametric_args_seen known owner inferred maybe (and_parametric before p r) ps gs)
+    number_before r (wanted_faults g.span t g.seen.judgement.ty) (type_there known owner before)
+    (parametric_args_seen known owner inferred maybe (and_parametric before r) ps gs)
 parametric_args_seen known owner inferred maybe before (p ∷ ps) [] =
-    let r = not_given known owner before p (declared_type known owner before p.ty) (is_in p.name.name maybe) (parametric_args_for p.name.name inferred) in
-    number_before r.value [] (and_there (type_there known owner before p) r.typing)
-    (parametric_args_seen known owner inferred maybe (and_parametric before p r.value) ps [])
+    let r = not_given known owner before p (parametric_type known owner before) (is_in p.name.name maybe) (parametric_args_for p.name.name inferred) in
+    number_before r.value [] (and_there (type_there known owner before) r.typing)
+    (parametric_args_seen known owner inferred maybe (and_parametric before r.value) ps [])
 
 -- a call or a spawn that breaks rule 3 or 10 types nothing of the other declaration, and reaches no instance of it
 abbrev pub is_refused : List Fault → ParametricArgsSeen → Bool
@@ -224,18 +224,17 @@ given_judgements gs = map (λ (g : ParametricArgument). g.seen.judgement) gs
 -- ---- calls of functions
 
 -- rule 9 at the operands
-abbrev pub operand_faults : GlobalEnv → List ℕ → Before → List Field → List ExprPair → List Judgement → List Fault
-operand_faults known owner bound (f ∷ fs) (e ∷ es) (j ∷ js) =
-    wanted_faults (span_of e) (declared_type known owner bound f.ty) j.ty ++ operand_faults known owner bound fs es js
-operand_faults known owner bound _ _ _ = []
+abbrev pub operand_faults : List (Option DslxType) → List ExprPair → List Judgement → List Fault
+operand_faults (t ∷ ts) (e ∷ es) (j ∷ js) = wanted_faults (span_of e) t j.ty ++ operand_faults ts es js
+operand_faults _ _ _ = []
 
-abbrev pub result_type : GlobalEnv → List ℕ → Before → Option TypeExpr → Option DslxType
-result_type known owner bound None = Some unit_type
-result_type known owner bound (Some t) = known.type_in owner bound.values bound.unknown t
+-- the signature of a function or a proc by the parametrics of a call or a spawn
+abbrev pub signature_seen : GlobalEnv → List ℕ → ParametricArgsSeen → Signature
+signature_seen known owner parametric_args = known.signature_in owner parametric_args.bound.values
 
 -- the type of a call's result: where all parametrics are known, and each operand has a type
 abbrev pub call_type : GlobalEnv → Function → ParametricArgsSeen → List Judgement → Option DslxType
-call_type known f parametric_args js = and_then parametric_args.values (λ vs. when_all (types_of js) (result_type known f.name.name parametric_args.bound f.result))
+call_type known f parametric_args js = and_then parametric_args.values (λ vs. when_all (types_of js) (signature_seen known f.name.name parametric_args).result)
 
 abbrev pub reached_by : Bool → List ℕ → Option (List DslxValue) → List Instance
 reached_by true name parametric_args = []
@@ -262,7 +261,7 @@ right_call span context f given es js cyclic parametric_args =
     let declared = typing_there cyclic parametric_args in
     settled span (call_type context.known f parametric_args js)
     (call_parts_faults given js ++ cyclic ++ parametric_args.faults ++ declared.faults ++ breaks_if parametric_args.is_wrong rule.ARGUMENTS_FIT span
-    ++ (if parametric_args.is_wrong then [] else operand_faults context.known f.name.name parametric_args.bound f.arguments es js))
+    ++ (if parametric_args.is_wrong then [] else operand_faults (signature_seen context.known f.name.name parametric_args).arguments es js))
     (call_parts_reached given js ++ declared.reached ++ reached_by (is_refused cyclic parametric_args) f.name.name parametric_args.values)
     (one_and (plus_size (size_of_all js) (callee_size context.known f.name.name parametric_args.values)))
 
@@ -276,7 +275,7 @@ has_right_count f given es = length es == length f.arguments && not (nat_lt (len
 abbrev pub function_call : Span → TypeEnv → Ident → List ParametricArgument → List ExprPair → List Judgement → Option Function → Judgement
 function_call span context name given es js None = settled span None (call_parts_faults given js ++ breaks rule.NAME_IS_DECLARED name.span ∷ []) (call_parts_reached given js) None
 function_call span context name given es js (Some f) =
-    let cyclic = breaks_if (is_cyclic context.known.whole context.owner name.name) rule.NO_ITEM_REACHES_ITSELF span in
+    let cyclic = breaks_if (context.known.is_cyclic context.owner name.name) rule.NO_ITEM_REACHES_ITSELF span in
     if has_right_count f given es then
     right_call span context f given es js cyclic (call_parametric_args context.known f given (types_of js))
     else wrong_call span given js cyclic

@@ -1,6 +1,6 @@
 -- Expressions that must be constant: those of `const`, widths, sizes, depths, bounds, parametric arguments, defaults and enum
 -- members.
-use Rattle.std.specs.Prelude.{ℕ, zero, suc, List, [], ◌∷◌, ◌++◌, ◌&&◌, map, Bool, true, false, not, Option, Some, None, if◌then◌else◌}
+use Rattle.std.specs.Prelude.{ℕ, zero, suc, List, [], ◌∷◌, ◌++◌, ◌&&◌, ◌||◌, map, Bool, true, false, not, Option, Some, None, if◌then◌else◌}
 use Rattle.std.specs.List.{list_any, list_all}
 use Rattle.xb_span.specs.declared.span.Span.{Span}
 use Rattle.xb_span.specs.declared.fault.Fault.{Fault}
@@ -8,13 +8,15 @@ use Rattle.xb_span.specs.declared.limit.What.TheVariants as what
 use Rattle.dslx_meaning.specs.Lists.{is_in, and_then}
 use Rattle.dslx_meaning.specs.Types.{bits_in}
 use Rattle.dslx_meaning.specs.Values.{unsigned_of}
+use Rattle.dslx_meaning.specs.Environment.{given_in}
 use Rattle.dslx_meaning.specs.Meaning.{value_of, some_count}
 use Rattle.dslx_meaning.specs.declared.ty.DslxType.{DslxType}
 use Rattle.dslx_meaning.specs.declared.value.DslxValue.{DslxValue}
 use Rattle.dslx_meaning.specs.Rules.Mentions.{free_names}
-use Rattle.dslx_meaning.specs.Rules.TypeEnvs.{GlobalEnv, Typed, TypeEnv, Judgement, ExprPair, breaks_if, has_broken, passes_count, span_of, untyped_of, alone, size_if_typed, constant_env}
+use Rattle.dslx_meaning.specs.Rules.TypeEnvs.{GlobalEnv, Typed, ChannelEnd, TypeEnv, Judgement, ExprPair, breaks_if, has_broken, passes_count, span_of, untyped_of, alone, size_if_typed, constant_env}
 use Rattle.dslx_meaning.specs.declared.ty.BitKind.{BitKind}
 use Rattle.dslx_meaning.specs.declared.value.UntypedLiteral.{UntypedLiteral}
+use Rattle.dslx_meaning.specs.Rules.PatternRules.{is_there}
 use Rattle.dslx_meaning.specs.Rules.RuleNumbers as rule
 
 -- the most nodes that a body or a constant has
@@ -45,8 +47,19 @@ abbrev pub is_sound_here : GlobalEnv → Judgement → Bool
 is_sound_here known j = is_empty j.faults && list_all known.is_sound j.reached
 
 -- some name that is free in it is bound around it
+abbrev pub names_a_bound : TypeEnv → ExprPair → Bool
+names_a_bound context e = list_any (λ name. is_in name (map (λ (l : Typed). l.name) context.locals)) (free_names e.0)
+
+-- some name that is free in it is a member's, which hides no parametric
+abbrev pub is_member : TypeEnv → List ℕ → Bool
+is_member context name = is_in name (map (λ (c : ChannelEnd). c.name) context.members) && not (is_there (given_in name context.parametric_args))
+
+abbrev pub names_a_member : TypeEnv → ExprPair → Bool
+names_a_member context e = list_any (is_member context) (free_names e.0)
+
+-- members are local bindings, too
 abbrev pub names_a_local : TypeEnv → ExprPair → Bool
-names_a_local context e = list_any (λ name. is_in name (map (λ (l : Typed). l.name) context.locals)) (free_names e.0)
+names_a_local context e = names_a_bound context e || names_a_member context e
 
 -- a constant: its judgement, and its value if it has one, without which it has no type either. An untyped literal has a
 -- value only by where it stands

@@ -13,21 +13,25 @@ use Rattle.dslx_tree.specs.declared.item.Item.{Item}
 use Rattle.dslx_tree.specs.declared.item.Definition.{Definition}
 use Rattle.dslx_tree.specs.declared.item.Definition.TheVariants as d
 use Rattle.dslx_tree.specs.declared.item.Function.{Function}
+use Rattle.dslx_tree.specs.declared.item.Field.{Field}
 use Rattle.dslx_tree.specs.declared.item.Parametric.{Parametric}
+use Rattle.dslx_tree.specs.declared.type_expr.TypeExpr.{TypeExpr}
+use Rattle.dslx_tree.specs.declared.process.End.{End}
 use Rattle.dslx_tree.specs.declared.process.Proc.{Proc}
 use Rattle.dslx_meaning.specs.Lists.{and_then}
-use Rattle.dslx_meaning.specs.Environment.{Given}
-use Rattle.dslx_meaning.specs.Items.{item_named, as_function, as_constant, as_struct, as_enum, is_constant_item, nothing_known, call_of, member_named}
+use Rattle.dslx_meaning.specs.Items.{item_named, as_function, as_constant, as_struct, as_enum, is_constant_item, nothing_known, call_of, member_named, with_number}
 use Rattle.dslx_meaning.specs.Network.{top_proc}
 use Rattle.dslx_meaning.specs.declared.ty.DslxType.{DslxType}
 use Rattle.dslx_meaning.specs.declared.value.DslxValue.{DslxValue}
-use Rattle.dslx_meaning.specs.Rules.TypeEnvs.{GlobalEnv, Instance, same_instance, DefaultSeen, breaks, has_broken}
+use Rattle.dslx_meaning.specs.Rules.TypeEnvs.{GlobalEnv, TypeEnv, Signature, Judgement, Instance, same_instance, DefaultSeen, breaks, has_broken}
 use Rattle.dslx_meaning.specs.Rules.ConstantRules.{constant_of, is_empty, untyped_typing}
+use Rattle.dslx_meaning.specs.Rules.Mentions.{is_cyclic}
 use Rattle.dslx_meaning.specs.Rules.NameRules.{listed_name}
 use Rattle.dslx_meaning.specs.Rules.PatternRules.{is_there}
+use Rattle.dslx_meaning.specs.Rules.TypeRules.{unless_unit}
 use Rattle.dslx_meaning.specs.Rules.CallRules.{ParametricArgsSeen, typing_there}
 use Rattle.dslx_meaning.specs.Rules.NodeRules.{expr_pair}
-use Rattle.dslx_meaning.specs.Rules.ItemRules.{Found, nothing_found, and_found, only_faults, all_found, item_type_env, typing_of_type, typing_of_inner, function_seen, constant_seen, alias_seen, struct_seen, enum_seen, enum_member_value}
+use Rattle.dslx_meaning.specs.Rules.ItemRules.{Found, nothing_found, and_found, only_faults, all_found, item_type_env, typing_of_type, typing_of_inner, result_typing, function_seen, constant_seen, alias_seen, struct_seen, enum_seen, enum_member_value}
 use Rattle.dslx_meaning.specs.Rules.ProcRules.{proc_parametric_args, proc_seen}
 use Rattle.dslx_meaning.specs.Rules.Namesakes.{told_apart}
 use Rattle.dslx_meaning.specs.Rules.RuleNumbers as rule
@@ -59,22 +63,71 @@ abbrev pub size_known : GlobalEnv → List DslxValue → Option Function → Opt
 size_known known parametric_args None = None
 size_known known parametric_args (Some f) = (function_seen known f parametric_args).body.size
 
-abbrev pub default_known : GlobalEnv → List ℕ → List Given → Expr → DefaultSeen
-default_known known owner parametric_args e =
-    let c = constant_of (item_type_env known owner parametric_args) (expr_pair e) in
-    record { judgement = c.judgement; value = c.value }
+-- the parametrics of a function or a proc
+abbrev pub parametrics_of : Option Definition → List Parametric
+parametrics_of (Some (d.Function f)) = f.parametrics
+parametrics_of (Some (d.Proc p)) = p.parametrics
+parametrics_of _ = []
+
+-- the type environment behind some of these, and those that are left
+pub record BehindParametrics : Type 0 where
+  pub context : TypeEnv
+  pub left : List Parametric
+
+-- behind one more, which has this value if one is known
+abbrev pub with_parametric : TypeEnv → Parametric → Option DslxValue → TypeEnv
+with_parametric context p None = record context { unknown = p.name.name ∷ context.unknown }
+with_parametric context p (Some v) = record context { parametric_args = with_number context.parametric_args p v }
+
+abbrev pub behind_next : TypeEnv → List Parametric → Option DslxValue → BehindParametrics
+behind_next context [] v = record { context = context; left = [] }
+behind_next context (p ∷ ps) v = record { context = with_parametric context p v; left = ps }
+
+-- in the text of an item, behind parametrics of these values, the last one first
+abbrev pub behind_values : GlobalEnv → List ℕ → List (Option DslxValue) → BehindParametrics
+behind_values known owner [] = record { context = item_type_env known owner []; left = parametrics_of (item_named owner known.whole.items) }
+behind_values known owner (v ∷ vs) = let b = behind_values known owner vs in behind_next b.context b.left v
+
+-- the typings of the type and of the default of the first one that is left
+abbrev pub parameter_seen : TypeEnv → List Parametric → Judgement
+parameter_seen context [] = untyped_typing
+parameter_seen context (p ∷ ps) = typing_of_inner context p.ty
+
+abbrev pub default_known : TypeEnv → Expr → DefaultSeen
+default_known context e = let c = constant_of context (expr_pair e) in record { judgement = c.judgement; value = c.value }
+
+abbrev pub default_if : TypeEnv → Option Expr → DefaultSeen
+default_if context None = record { judgement = untyped_typing; value = None }
+default_if context (Some e) = default_known context e
+
+abbrev pub default_seen : TypeEnv → List Parametric → DefaultSeen
+default_seen context [] = default_if context None
+default_seen context (p ∷ ps) = default_if context p.default
+
+abbrev pub no_signature : Signature
+no_signature = record { arguments = []; result = None }
+
+-- the type of an argument or of an end's words
+abbrev pub declared_type : TypeEnv → TypeExpr → Option DslxType
+declared_type context t = unless_unit (typing_of_type context t).ty
+
+abbrev pub signature_of : TypeEnv → Option Definition → Signature
+signature_of context (Some (d.Function f)) = record { arguments = map (λ (a : Field). declared_type context a.ty) f.arguments; result = (result_typing context f.result).ty }
+signature_of context (Some (d.Proc p)) = record { arguments = map (λ (e : End). declared_type context e.word) p.config.ends; result = None }
+signature_of context _ = no_signature
 
 -- the global environment in which nothing is known
 abbrev pub no_globals : Module → GlobalEnv
 no_globals m = record {
   whole = m;
   items = record nothing_known { is_constant = λ name. is_constant_item (item_named name m.items) };
+  is_cyclic = is_cyclic m;
   is_sound = λ i. false;
   is_unbroken = λ i. false;
   body_size = λ i. None;
-  type_in = λ owner parametric_args unknown t. None;
-  type_seen_in = λ owner parametric_args t. untyped_typing;
-  default_in = λ owner parametric_args e. record { judgement = untyped_typing; value = None };
+  parameter_in = λ owner before. untyped_typing;
+  default_in = λ owner before. record { judgement = untyped_typing; value = None };
+  signature_in = λ owner before. no_signature;
 }
 
 abbrev pub globals_over : GlobalEnv → GlobalEnv
@@ -88,12 +141,13 @@ globals_over known = record {
     member = λ name a. and_then (as_enum (item_named name known.whole.items)) (λ e. enum_member_value known e a (member_named a e.members));
     call = λ name parametric_args operands. and_then (as_function (item_named name known.whole.items)) (λ f. call_of known.items f parametric_args operands);
   };
+  is_cyclic = is_cyclic known.whole;
   is_sound = sound_instance known;
   is_unbroken = unbroken_instance known;
   body_size = λ i. size_known known i.parametric_args (as_function (item_named i.name known.whole.items));
-  type_in = λ owner parametric_args unknown t. (typing_of_type (record (item_type_env known owner parametric_args) { unknown = unknown }) t).ty;
-  type_seen_in = λ owner parametric_args t. typing_of_inner (item_type_env known owner parametric_args) t;
-  default_in = default_known known;
+  parameter_in = λ owner before. let b = behind_values known owner before in parameter_seen b.context b.left;
+  default_in = λ owner before. let b = behind_values known owner before in default_seen b.context b.left;
+  signature_in = λ owner before. signature_of (behind_values known owner before).context (item_named owner known.whole.items);
 }
 
 -- the global environment of a use at the head of a chain of at most so many items, each of which mentions the next. No

@@ -12,7 +12,6 @@ use Rattle.dslx_meaning.specs.Environment.{given_in}
 use Rattle.dslx_meaning.specs.Items.{item_named, as_enum}
 use Rattle.dslx_meaning.specs.declared.ty.DslxType.{DslxType}
 use Rattle.dslx_meaning.specs.declared.value.DslxValue.{DslxValue}
-use Rattle.dslx_meaning.specs.Rules.Mentions.{is_cyclic}
 use Rattle.dslx_meaning.specs.Rules.TypeEnvs.{TypeEnv, Judgement, breaks, breaks_if, unlimited, settled, typed_in, is_item}
 use Rattle.dslx_meaning.specs.Rules.RuleNumbers as rule
 
@@ -22,7 +21,7 @@ use Rattle.dslx_meaning.specs.Rules.RuleNumbers as rule
 abbrev pub item_value : Span → TypeEnv → List ℕ → Bool → Judgement
 item_value span context name false = settled span None (breaks rule.NAME_IS_DECLARED span ∷ []) [] (Some 1)
 item_value span context name true =
-    settled span (option_map type_of_value (context.known.items.constant name)) (breaks_if (is_cyclic context.known.whole context.owner name) rule.NO_ITEM_REACHES_ITSELF span) [] (Some 1)
+    settled span (option_map type_of_value (context.known.items.constant name)) (breaks_if (context.known.is_cyclic context.owner name) rule.NO_ITEM_REACHES_ITSELF span) [] (Some 1)
 
 -- a parametric has no type where no value of it is known
 abbrev pub parametric_or_item : Span → TypeEnv → List ℕ → Option DslxValue → Judgement
@@ -56,7 +55,7 @@ abbrev pub member_of : TypeEnv → Ident → Ident → Option Enum → Judgement
 member_of context e a None = unlimited None (breaks rule.NAME_IS_DECLARED e.span ∷ []) [] (Some 1)
 member_of context e a (Some declared) =
     unlimited (member_type context e a)
-    (breaks_if (is_cyclic context.known.whole context.owner e.name) rule.NO_ITEM_REACHES_ITSELF e.span ++ breaks_if (not (has_member declared a.name)) rule.NAME_IS_DECLARED a.span) [] (Some 1)
+    (breaks_if (context.known.is_cyclic context.owner e.name) rule.NO_ITEM_REACHES_ITSELF e.span ++ breaks_if (not (has_member declared a.name)) rule.NAME_IS_DECLARED a.span) [] (Some 1)
 
 -- `E::A`
 abbrev pub member_typing : TypeEnv → Ident → Ident → Judgement

@@ -8,7 +8,6 @@ use Rattle.dslx_meaning.specs.Values.{type_of_value}
 use Rattle.dslx_meaning.specs.declared.ty.DslxType.{DslxType, out-DslxType}
 use Rattle.dslx_meaning.specs.declared.ty.DslxType.TheOpen.{DslxType-F}
 use Rattle.dslx_meaning.specs.declared.value.DslxValue.{DslxValue}
-use Rattle.dslx_meaning.specs.Rules.Mentions.{is_cyclic}
 use Rattle.dslx_meaning.specs.Rules.TypeEnvs.{TypeEnv, Typed, Judgement, breaks, breaks_if, unlimited}
 use Rattle.dslx_meaning.specs.Rules.Typings.{PatternSeen, PatternTyping, PatternPair, ShapeLayer}
 use Rattle.dslx_meaning.specs.Rules.NameRules.{member_typing, local_name}
@@ -49,7 +48,7 @@ bound_name span context ty names locals name = record {
 
 -- no limit applies to a pattern's type
 abbrev pub constant_pattern : Span → TypeEnv → List ℕ → Option DslxValue → Judgement
-constant_pattern span context name v = unlimited (option_map type_of_value v) (breaks_if (is_cyclic context.known.whole context.owner name) rule.NO_ITEM_REACHES_ITSELF span) [] (Some 1)
+constant_pattern span context name v = unlimited (option_map type_of_value v) (breaks_if (context.known.is_cyclic context.owner name) rule.NO_ITEM_REACHES_ITSELF span) [] (Some 1)
 
 -- the types of the parts of a tuple, where it has as many
 abbrev pub part_types_in : ℕ → DslxType-F DslxType → Option (List DslxType)

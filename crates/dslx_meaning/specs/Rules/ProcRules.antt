@@ -26,12 +26,11 @@ use Rattle.dslx_meaning.specs.Activation.{StmtLayer}
 use Rattle.dslx_meaning.specs.Network.{as_proc}
 use Rattle.dslx_meaning.specs.declared.ty.DslxType.{DslxType}
 use Rattle.dslx_meaning.specs.declared.value.DslxValue.{DslxValue}
-use Rattle.dslx_meaning.specs.Rules.Mentions.{is_cyclic}
 use Rattle.dslx_meaning.specs.Rules.EffectNames.{is_effect}
 use Rattle.dslx_meaning.specs.Rules.TypeEnvs.{GlobalEnv, ChannelEnd, TypeEnv, Judgement, breaks, breaks_if, passes, passes_count, faults_of_all, reached_of_all}
 use Rattle.dslx_meaning.specs.Rules.ConstantRules.{count_of}
 use Rattle.dslx_meaning.specs.Rules.NameRules.{local_name}
-use Rattle.dslx_meaning.specs.Rules.CallRules.{ParametricArgument, Before, known_before, ParametricArgsSeen, parametric_args_seen, is_refused, typing_there, declared_type, given_parametric_args, given_judgements, same_direction, channel_end_in, reached_by}
+use Rattle.dslx_meaning.specs.Rules.CallRules.{ParametricArgument, known_before, ParametricArgsSeen, parametric_args_seen, is_refused, typing_there, signature_seen, given_parametric_args, given_judgements, same_direction, channel_end_in, reached_by}
 use Rattle.dslx_meaning.specs.Rules.NodeRules.{arg_pair}
 use Rattle.dslx_meaning.specs.Rules.ItemRules.{Found, nothing_found, and_found, only_faults, found_in, item_type_env, typing_of_type, typing_of_inner, parametrics_found, body_typing}
 use Rattle.dslx_meaning.specs.Rules.RuleNumbers as rule
@@ -118,11 +117,11 @@ misfits direction word (Some o) = not (same_direction direction o.direction) || 
     other_word _ _ = false
 
 -- rule 9 at the end's name
-abbrev pub handed_faults : GlobalEnv → List ℕ → Before → Made → List End → List Ident → List Fault
-handed_faults known owner bound made (e ∷ es) (i ∷ is) =
-    breaks_if (misfits e.direction (declared_type known owner bound e.word) (channel_end_in i.name made.channel_ends)) rule.VALUE_HAS_ITS_TYPE i.span
-    ++ handed_faults known owner bound made es is
-handed_faults known owner bound made _ _ = []
+abbrev pub handed_faults : Made → List (Option DslxType) → List End → List Ident → List Fault
+handed_faults made (t ∷ ts) (e ∷ es) (i ∷ is) =
+    breaks_if (misfits e.direction t (channel_end_in i.name made.channel_ends)) rule.VALUE_HAS_ITS_TYPE i.span
+    ++ handed_faults made ts es is
+handed_faults made _ _ _ = []
 
 abbrev pub given_found : List ParametricArgument → Found
 given_found gs = record { faults = faults_of_all (given_judgements gs); reached = reached_of_all (given_judgements gs) }
@@ -136,14 +135,14 @@ right_spawn context made s target cyclic parametric_args =
     let declared = typing_there cyclic parametric_args in
     record {
       faults = cyclic ++ parametric_args.faults ++ declared.faults ++ breaks_if parametric_args.is_wrong rule.ARGUMENTS_FIT s.span
-          ++ (if parametric_args.is_wrong then [] else handed_faults context.known target.name.name parametric_args.bound made target.config.ends s.ends);
+          ++ (if parametric_args.is_wrong then [] else handed_faults made (signature_seen context.known target.name.name parametric_args).arguments target.config.ends s.ends);
       reached = declared.reached ++ reached_by (is_refused cyclic parametric_args) target.name.name parametric_args.values;
     }
 
 abbrev pub spawn_of : TypeEnv → Made → Spawn → List ParametricArgument → Option Proc → Found
 spawn_of context made s given None = only_faults (breaks rule.NAME_IS_DECLARED s.target.span ∷ [])
 spawn_of context made s given (Some target) =
-    let cyclic = breaks_if (is_cyclic context.known.whole context.owner target.name.name) rule.NO_ITEM_REACHES_ITSELF s.span in
+    let cyclic = breaks_if (context.known.is_cyclic context.owner target.name.name) rule.NO_ITEM_REACHES_ITSELF s.span in
     if length s.ends == length target.config.ends && not (nat_lt (length target.parametrics) (length given))
     then right_spawn context made s target cyclic (proc_parametric_args context.known target given)
     else only_faults (cyclic ++ breaks rule.ARGUMENTS_FIT s.span ∷ [])

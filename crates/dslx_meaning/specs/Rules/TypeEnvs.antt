@@ -11,7 +11,6 @@ use Rattle.xb_span.specs.declared.fault.Fault.TheVariants.{Whole, Broken, Passed
 use Rattle.xb_span.specs.declared.limit.What.{What}
 use Rattle.xb_span.specs.declared.limit.What.TheVariants as what
 use Rattle.dslx_tree.specs.declared.expr.Expr.{Expr, out-Expr}
-use Rattle.dslx_tree.specs.declared.type_expr.TypeExpr.{TypeExpr}
 use Rattle.dslx_tree.specs.declared.item.Module.{Module}
 use Rattle.dslx_tree.specs.declared.process.Direction.{Direction}
 use Rattle.dslx_meaning.specs.Lists.{pairwise, is_in}
@@ -53,22 +52,29 @@ pub record DefaultSeen : Type 0 where
   pub judgement : Judgement
   pub value : Option DslxValue
 
+-- the types that are declared for the arguments of a function or the ends of a proc, where () is none, and for the result
+pub record Signature : Type 0 where
+  pub arguments : List (Option DslxType)
+  pub result : Option DslxType
+
 -- the global environment: what is known of the items. A constant has a value only where nothing that it reaches breaks a rule or passes a limit; a
 -- type is known only where its declaration breaks no rule. A call has the value that it denotes, whatever it reaches
 pub record GlobalEnv : Type 0 where
   pub whole : Module
   pub items : Meanings
+  -- a use in the text of the first item of the second one is of an item that is the same or reaches it, which rule 3 refuses
+  pub is_cyclic : List ℕ → List ℕ → Bool
   -- the instance reaches nothing that breaks a rule or passes a limit
   pub is_sound : Instance → Bool
   -- the instance reaches nothing that breaks a rule
   pub is_unbroken : Instance → Bool
   -- how many nodes the body of an instance has
   pub body_size : Instance → Option ℕ
-  -- what a written type denotes in the text of an item, where these parametrics have values and of these no value is known
-  pub type_in : List ℕ → List Given → List (List ℕ) → TypeExpr → Option DslxType
-  -- the typings of a type where () may not stand and of a default there, where all parametrics before have values
-  pub type_seen_in : List ℕ → List Given → TypeExpr → Judgement
-  pub default_in : List ℕ → List Given → Expr → DefaultSeen
+  -- the typings of the type and of the default of an item's parametric behind these values of those before it, the last one
+  -- first, of which some may not be known; and the item's signature, where these are the values of all
+  pub parameter_in : List ℕ → List (Option DslxValue) → Judgement
+  pub default_in : List ℕ → List (Option DslxValue) → DefaultSeen
+  pub signature_in : List ℕ → List (Option DslxValue) → Signature
 
 -- a name that is bound, with its type if it has one
 pub record Typed : Type 0 where

@@ -1,5 +1,5 @@
 -- The rules of written types.
-use Rattle.std.specs.Prelude.{ℕ, List, [], ◌∷◌, ◌++◌, map, Bool, true, false, Option, Some, None}
+use Rattle.std.specs.Prelude.{ℕ, List, [], ◌∷◌, ◌++◌, map, Bool, true, false, Option, Some, None, if◌then◌else◌}
 use Rattle.xb_span.specs.declared.span.Span.{Span}
 use Rattle.xb_span.specs.declared.fault.Fault.{Fault}
 use Rattle.dslx_tree.specs.declared.block.Stmt.TheOpen.{TypeNode-F}
@@ -9,7 +9,7 @@ use Rattle.dslx_meaning.specs.Types.{is_unit}
 use Rattle.dslx_meaning.specs.Items.{item_named}
 use Rattle.dslx_meaning.specs.declared.ty.DslxType.{DslxType}
 use Rattle.dslx_meaning.specs.declared.ty.DslxType as ty
-use Rattle.dslx_meaning.specs.Rules.Mentions.{is_of_use, AsType, is_cyclic}
+use Rattle.dslx_meaning.specs.Rules.Mentions.{is_of_use, AsType}
 use Rattle.dslx_meaning.specs.Rules.TypeEnvs.{TypeEnv, Judgement, breaks, breaks_if, settled, faults_of_all, reached_of_all, types_of}
 use Rattle.dslx_meaning.specs.Rules.ConstantRules.{CountSeen, count_of, count_faults}
 use Rattle.dslx_meaning.specs.Rules.Typings.{TypePair, TypeNodeLayer}
@@ -19,6 +19,10 @@ use Rattle.dslx_meaning.specs.Rules.RuleNumbers as rule
 abbrev pub unit_faults : Span → Option DslxType → List Fault
 unit_faults span None = []
 unit_faults span (Some t) = breaks_if (is_unit t) rule.NO_UNIT_INSIDE span
+
+-- a type where () may not stand and so is none
+abbrev pub unless_unit : Option DslxType → Option DslxType
+unless_unit t = and_then t (λ t. if is_unit t then None else Some t)
 
 abbrev pub span_of_type : TypePair → Span
 span_of_type t = (out-TypeExpr t.0).span
@@ -47,7 +51,7 @@ counted_type span t faults n = settled span t (faults ++ n.judgement.faults) n.j
 abbrev pub named_type : Span → TypeEnv → List ℕ → Bool → Judgement
 named_type span context name false = settled span None (breaks rule.NAME_IS_DECLARED span ∷ []) [] (Some 0)
 named_type span context name true =
-    settled span (context.known.items.type_named name) (breaks_if (is_cyclic context.known.whole context.owner name) rule.NO_ITEM_REACHES_ITSELF span) [] (Some 0)
+    settled span (context.known.items.type_named name) (breaks_if (context.known.is_cyclic context.owner name) rule.NO_ITEM_REACHES_ITSELF span) [] (Some 0)
 
 abbrev pub joined_reached : Judgement → CountSeen → Judgement → Judgement
 joined_reached a n j = record j { reached = a.reached ++ n.judgement.reached }

@@ -7,7 +7,7 @@ use Rattle.dslx_meaning.specs.Environment.{Env}
 use Rattle.dslx_meaning.specs.Meaning.{ExprDen, bound_in, bound_of, count_in, denotation, size_of, some_count, value_of}
 use Rattle.dslx_meaning.specs.declared.value.UntypedLiteral.{UntypedLiteral}
 use Rattle.dslx_meaning.specs.declared.value.DslxValue.{DslxValue}
-use Rattle.dslx_meaning.specs.Rules.ConstantRules.{ConstantSeen, untyped_typing, count_faults, count_number, count_type_faults, constant_of, constant_or_untyped, count_of, names_a_local, size_faults}
+use Rattle.dslx_meaning.specs.Rules.ConstantRules.{ConstantSeen, untyped_typing, count_faults, count_number, count_type_faults, constant_of, constant_or_untyped, count_of, names_a_bound, names_a_local, names_a_member, size_faults}
 use Rattle.dslx_meaning.specs.Rules.TypeEnvs.{ExprPair, Instance, TypeEnv, Typed, alone, untyped_of, breaks_if, span_of}
 use Rattle.dslx_meaning.specs.Rules.Mentions.{free_names, mentioned}
 use Rattle.dslx_meaning.specs.Rules.OperatorRules.{bound_number, is_negative_bound}
@@ -56,7 +56,7 @@ pub record SeesOutside (context : TypeEnv) (env : Env) (place : CoreScope) (e : 
   pub none : sees_a_local place e ≡ false
   pub same : value_of e (globals_env place.known) ≡ value_of e (env_there context env.bound)
 
-pub sees_outside : (here : Instance → Bool) (context : TypeEnv) (env : Env) (place : CoreScope) → IsWellTypedEnv context env → ScopeMatchesEnv here context place → (e : ExprPair) → names_a_local context e ≡ false
+pub sees_outside : (here : Instance → Bool) (context : TypeEnv) (env : Env) (place : CoreScope) → IsWellTypedEnv context env → ScopeMatchesEnv here context place → (e : ExprPair) → names_a_bound context e ≡ false
     → SeesOutside context env place e.0
 sees_outside here context env place h at e free = record {
   none = ap (λ names. list_any (λ name. is_in name names) (free_names e.0)) (names_alike here context place at) ∙ free;
@@ -65,11 +65,12 @@ sees_outside here context env place h at e free = record {
 
 -- ---- constants
 
-names_no_local : (here : Instance → Bool) (context : TypeEnv) (e : ExprPair) → (constant_of context e).judgement.faults ≡ [] → names_a_local context e ≡ false
+names_no_local : (here : Instance → Bool) (context : TypeEnv) (e : ExprPair) → (constant_of context e).judgement.faults ≡ [] → names_a_bound context e ≡ false
 names_no_local here context e f =
     let a = alone context e in
     let local = breaks_if (names_a_local context e) 5 (span_of e) in
-    not_broken (names_a_local context e) 5 (span_of e) (none_in_three a.faults local (size_faults context.known (span_of e).to (record a { faults = a.faults ++ local })) f).1
+    let none = not_broken (names_a_local context e) 5 (span_of e) (none_in_three a.faults local (size_faults context.known (span_of e).to (record a { faults = a.faults ++ local })) f).1 in
+    (or_false (names_a_bound context e) (names_a_member context e) none).0
 
 -- a constant has its value at the place
 pub constant_there : (here : Instance → Bool) (context : TypeEnv) (env : Env) (place : CoreScope) (e : ExprPair) (x : ExprDen) → ExprGives e x → IsWellTypedEnv context env → ScopeMatchesEnv here context place
@@ -86,10 +87,10 @@ seen_by context e None = constant_of context e
 seen_by context e (Some number) = record { judgement = untyped_typing; bare = Some number; value = None }
 
 -- an expression that is a number, or that is judged as a constant, names no local
-untyped_or_constant : (here : Instance → Bool) (context : TypeEnv) (e : ExprPair) → (constant_or_untyped context e).judgement.faults ≡ [] → names_a_local context e ≡ false
+untyped_or_constant : (here : Instance → Bool) (context : TypeEnv) (e : ExprPair) → (constant_or_untyped context e).judgement.faults ≡ [] → names_a_bound context e ≡ false
 untyped_or_constant here context e f = by_untyped (untyped_of e) refl f
   where
-    by_untyped : (o : Option UntypedLiteral) → untyped_of e ≡ o → (seen_by context e o).judgement.faults ≡ [] → names_a_local context e ≡ false
+    by_untyped : (o : Option UntypedLiteral) → untyped_of e ≡ o → (seen_by context e o).judgement.faults ≡ [] → names_a_bound context e ≡ false
     by_untyped None q k = names_no_local here context e k
     by_untyped (Some number) q k = ap (list_any (λ name. is_in name (local_names context))) (bare_names_nothing e.0 number q)
 

@@ -12,8 +12,8 @@ use Rattle.dslx_meaning.specs.Types.{bool_type, same_type, unsigned}
 use Rattle.dslx_meaning.specs.declared.ty.DslxType.{DslxType}
 use Rattle.dslx_meaning.specs.declared.ty.DslxType as ty
 use Rattle.dslx_meaning.specs.declared.value.DslxValue.{DslxValue}
-use Rattle.dslx_meaning.specs.Rules.AggregateRules.{struct_if, struct_typing, array_faults, array_in, element_alone, element_in, element_type, field_typing, field_part_typing, field_type, first_type_of, has_twice, index_typing, is_array, lacks_one, like_first, others_typing, pair_alone, part_type, tuple_element_typing, tuple_typing, typed_array, unknown_fields, untyped_array, when_all, written_fields}
-use Rattle.dslx_meaning.specs.Rules.CallRules.{ParametricArgument, builtin_typing, call_typing, counting, first_operand_type, function_call, given_parametric_args, has_right_count, updating, without_parametric_args, ParametricArgsSeen, call_parts_faults, call_type, joining, operand_faults, right_call, token_typing, update_faults, wrong_call, call_parametric_args, typing_there}
+use Rattle.dslx_meaning.specs.Rules.AggregateRules.{struct_if, struct_typing, array_faults, array_in, element_alone, element_in, element_type, field_typing, field_part_typing, field_type, first_type_of, has_twice, index_typing, is_array, lacks_one, like_first, others_typing, pair_or_alone, part_type, tuple_element_typing, tuple_typing, typed_array, unknown_fields, untyped_array, when_all, written_fields}
+use Rattle.dslx_meaning.specs.Rules.CallRules.{ParametricArgument, builtin_typing, call_typing, counting, first_operand_type, function_call, given_parametric_args, has_right_count, updating, without_parametric_args, ParametricArgsSeen, call_parts_faults, call_type, joining, operand_faults, right_call, signature_seen, token_typing, update_faults, wrong_call, call_parametric_args, typing_there}
 use Rattle.dslx_meaning.specs.Rules.TypeEnvs.{ExprPair, Judgement, TypeEnv, all_alone, settled, typed_in, alone, breaks, breaks_if, faults_of_all, one_and, plus_size, span_of, types_of}
 use Rattle.dslx_meaning.specs.Rules.Typings.{ArgPair, FieldSeen, ArmSeen, BlockPair, TypeExprTyping, StatementTyping}
 use Rattle.dslx_meaning.specs.Rules.NameRules.{item_value, local_or_other, name_typing, parametric_or_item, end_or_other}
@@ -25,7 +25,6 @@ use Rattle.xb_span.specs.declared.fault.Fault.{Fault}
 use Rattle.std.specs.Prelude.{option_map}
 use Rattle.dslx_tree.specs.declared.operator.Binary.{Binary}
 use Rattle.dslx_meaning.specs.Rules.PatternRules.{is_there}
-use Rattle.dslx_meaning.specs.Rules.Mentions.{is_cyclic}
 use Rattle.dslx_meaning.specs.Rules.ControlRules.{LoopSeen, all_known, arm_typing, arm_values, arms_faults, block_alone, first_of_types, if_typing, last_typing, loop_faults, loop_parts_faults, loop_type, loop_with, match_faults, match_typing, statements_typing}
 use Rattle.dslx_meaning.specs.Rules.ConstantRules.{constant_or_untyped, is_empty, is_unsigned}
 use Rattle.dslx_meaning.specs.Values.{type_of_value}
@@ -45,7 +44,7 @@ name_limited span name context = by_local (typed_in name context.locals)
   where
     by_item : (b : Bool) → Keeps (item_value span context name b)
     by_item false = settled_keeps span None (breaks 1 span ∷ [])
-    by_item true = settled_keeps span (option_map type_of_value (context.known.items.constant name)) (breaks_if (is_cyclic context.known.whole context.owner name) 3 span)
+    by_item true = settled_keeps span (option_map type_of_value (context.known.items.constant name)) (breaks_if (context.known.is_cyclic context.owner name) 3 span)
 
     by_globals : (b : Bool) → Keeps (if b then settled span None [] [] (Some 1) else item_value span context name (context.known.items.is_constant name))
     by_globals true = settled_keeps span None []
@@ -94,7 +93,7 @@ struct_limited span name fields others context = by_struct (as_struct (item_name
         let rest = others_typing context struct others in
         let names = map name_of_field declared.fields in
         settled_keeps span (when_all (rest.ty ∷ types_of js) struct)
-        ((((breaks_if (is_cyclic context.known.whole context.owner name.name) 3 name.span ++ faults_of_all js) ++ rest.faults) ++ unknown_fields names fields)
+        ((((breaks_if (context.known.is_cyclic context.owner name.name) 3 name.span ++ faults_of_all js) ++ rest.faults) ++ unknown_fields names fields)
         ++ breaks_if (has_twice (written_fields fields) || lacks_one names (written_fields fields) (is_there others)) 22 span)
 
 -- ---- operators
@@ -143,7 +142,7 @@ field_limited span e name context =
 
 pub element_limited : (span : Span) (e : ExprPair) (k : ℕ) → IsLimited (λ context. tuple_element_typing span context e k)
 element_limited span e k context =
-    let a = pair_alone context e in
+    let a = pair_or_alone k context e in
     settled_keeps span (and_then a.ty (λ t. part_type t k)) (a.faults ++ unless_type (λ t. is_there (part_type t k)) 19 span a.ty)
 
 -- ---- control
@@ -212,7 +211,7 @@ function_keeps span context name gs es = by_function (as_function (item_named na
     js = all_alone context es
 
     cyclic : List Fault
-    cyclic = breaks_if (is_cyclic context.known.whole context.owner name.name) 3 span
+    cyclic = breaks_if (context.known.is_cyclic context.owner name.name) 3 span
 
     seen : Function → ParametricArgsSeen
     seen f = call_parametric_args context.known f gs (types_of js)
@@ -222,7 +221,7 @@ function_keeps span context name gs es = by_function (as_function (item_named na
     by_count f true =
         settled_keeps span (call_type context.known f (seen f) js)
         (((((call_parts_faults gs js ++ cyclic) ++ (seen f).faults) ++ (typing_there cyclic (seen f)).faults) ++ breaks_if (seen f).is_wrong 10 span)
-        ++ (if (seen f).is_wrong then [] else operand_faults context.known f.name.name (seen f).bound f.arguments es js))
+        ++ (if (seen f).is_wrong then [] else operand_faults (signature_seen context.known f.name.name (seen f)).arguments es js))
 
     by_function : (o : Option Function) → Keeps (function_call span context name gs es js o)
     by_function None = settled_keeps span None (call_parts_faults gs js ++ breaks 1 name.span ∷ [])

@@ -1,5 +1,5 @@
 -- Tuples and arrays become something.
-use Rattle.std.proofs.Common.{◌≡◌, ◌&&◌, ◌||◌, ◌++◌, ◌==◌, ℕ, suc, length, Bool, true, false, not, if◌then◌else◌, List, [], ◌∷◌, map, Option, Some, None, refl, sym, ap, subst, ◌∙◌}
+use Rattle.std.proofs.Common.{◌≡◌, ◌&&◌, ◌||◌, ◌++◌, ◌==◌, ℕ, zero, suc, length, Bool, true, false, not, if◌then◌else◌, List, [], ◌∷◌, map, Option, Some, None, refl, sym, ap, subst, ◌∙◌}
 use mathlib.Core.Bool.{true≢false}
 use Rattle.std.specs.List.{list_all}
 use Rattle.std.proofs.lemmas.Bool.{le-leb, ltb-false}
@@ -17,7 +17,7 @@ use Rattle.dslx_meaning.specs.declared.ty.DslxType.TheOpen.{DslxType-F}
 use Rattle.dslx_meaning.specs.declared.ty.DslxType.TheVariants as rolls
 use Rattle.dslx_meaning.specs.declared.ty.DslxType.TheViews as views
 use Rattle.dslx_meaning.specs.declared.value.UntypedLiteral.{UntypedLiteral}
-use Rattle.dslx_meaning.specs.Rules.AggregateRules.{array_faults, array_in, array_parts, count_wrong, element_alone, element_in, element_type, first_type_of, is_some_tuple, like_first, pair_alone, part_type, range_faults, tuple_element_typing, tuple_typing, typed_array, untyped_array, wanted_faults, when_all}
+use Rattle.dslx_meaning.specs.Rules.AggregateRules.{array_faults, array_in, array_parts, count_wrong, element_alone, element_in, element_type, first_type_of, is_some_tuple, like_first, pair_alone, pair_or_alone, part_type, range_faults, tuple_element_typing, tuple_typing, typed_array, untyped_array, wanted_faults, when_all}
 use Rattle.dslx_meaning.specs.Rules.ConstantRules.{untyped_typing, is_empty, is_zero}
 use Rattle.dslx_meaning.specs.Rules.TypeEnvs.{ExprPair, Instance, Judgement, TypeEnv, alone, untyped_of, breaks, breaks_if, faults_of_all, no_token, one_and, reached_of_all, settled, size_of_all, span_of, types_of, within}
 use Rattle.dslx_meaning.specs.Rules.Typings.{TypeExprTyping}
@@ -68,12 +68,18 @@ pair_lowers_to here context env place e l s h at well_typed = by_type (within co
     by_type None f = within_lowers_to here context env place e l s h at f
     by_type (Some t) f = by_test (is_some_tuple (out-DslxType t)) f
 
+taken_lowers_to : (k : ℕ) (here : Instance → Bool) (context : TypeEnv) (env : Env) (place : CoreScope) (e : ExprPair) (l : ExprLowering) → ExprLowers e l → IsWellTypedEnv context env → ScopeMatchesEnv here context place
+    → IsWellTypedPart (reaching context.known here) (pair_or_alone k context e) → LowersTo (types_at context) (pair_or_alone k context e) (l place)
+taken_lowers_to zero here context env place e l s h at well_typed = pair_lowers_to here context env place e l s h at well_typed
+taken_lowers_to (suc zero) here context env place e l s h at well_typed = pair_lowers_to here context env place e l s h at well_typed
+taken_lowers_to (suc (suc k)) here context env place e l s h at well_typed = alone_lowers_to here context env place e l s h at well_typed.faults well_typed.reached
+
 pub lower_total_element : (span : Span) (e : ExprPair) (k : ℕ) (x : ExprLowering) → ExprLowers e x → PartLowers (λ context. tuple_element_typing span context e k) (λ place. lower_element (x place) k)
 lower_total_element span e k x se here context env place h at well_typed =
-    let a = pair_alone context e in
+    let a = pair_or_alone k context e in
     let wrong = unless_type (λ t. is_there (part_type t k)) 19 span a.ty in
     let s = settled_well_typed (reaching context.known here) span (and_then a.ty (λ t. part_type t k)) (a.faults ++ wrong) a.reached (one_and a.size) well_typed in
-    let g = pair_lowers_to here context env place e x se h at (record { faults = (none_in a.faults wrong s.faults).0; reached = s.reached }) in
+    let g = taken_lowers_to k here context env place e x se h at (record { faults = (none_in a.faults wrong s.faults).0; reached = s.reached }) in
     ap (λ o. type_of_lowered (lower_element o k)) g.is ∙ typed g.expr (part_type g.expr.ty k) ∙ sym (ap (λ o. and_then o (λ t. part_type t k)) g.typed) ∙ sym s.ty
   where
     typed : (e : LoweredExpr) (o : Option DslxType) → type_of_lowered (and_then o (λ t. lowered (core.Element e.core k) t)) ≡ o

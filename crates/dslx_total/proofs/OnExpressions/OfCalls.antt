@@ -13,24 +13,23 @@ use Rattle.dslx_tree.specs.declared.item.Function.{Function}
 use Rattle.dslx_meaning.specs.Callees.{AllOnes, CallKind, Calls, CountsLeading, CountsTrailing, Joins, Parity, Receives, ReceivesIf, Reverses, Sends, SendsIf, SomeOne, Updates}
 use Rattle.dslx_meaning.specs.Lists.{all_some, and_then, where_true, with_both}
 use Rattle.dslx_meaning.specs.Types.{bool_type, same_type}
-use Rattle.dslx_meaning.specs.Environment.{Env, Given}
-use Rattle.dslx_meaning.specs.Items.{as_function, item_named, parametric_args_bound}
+use Rattle.dslx_meaning.specs.Environment.{Env}
+use Rattle.dslx_meaning.specs.Items.{as_function, item_named}
 use Rattle.dslx_meaning.specs.Meaning.{ExprDen}
 use Rattle.dslx_meaning.specs.declared.ty.DslxType.{DslxType}
 use Rattle.dslx_meaning.specs.declared.ty.DslxType as ty
 use Rattle.dslx_meaning.specs.declared.value.DslxValue.{DslxValue}
 use Rattle.dslx_meaning.specs.Rules.AggregateRules.{array_in, element_type, is_array, wanted_faults, when_all}
-use Rattle.dslx_meaning.specs.Rules.CallRules.{ParametricArgument, ParametricArgsSeen, builtin_typing, call_typing, call_parametric_args, call_parts_faults, call_parts_reached, counting, declared_type, first_operand_type, function_call, given_judgements, given_parametric_args, has_right_count, joining, known_before, operand_faults, reached_by, receiving, receiving_if, result_type, right_call, sending, sending_if, token_faults, token_typing, unnumbered_effect, update_faults, updating, without_parametric_args, wrong_call}
+use Rattle.dslx_meaning.specs.Rules.CallRules.{Before, ParametricArgument, ParametricArgsSeen, builtin_typing, call_typing, call_parametric_args, call_parts_faults, call_parts_reached, counting, first_operand_type, function_call, given_judgements, given_parametric_args, has_right_count, joining, operand_faults, reached_by, receiving, receiving_if, right_call, sending, sending_if, signature_seen, token_faults, token_typing, unnumbered_effect, update_faults, updating, without_parametric_args, wrong_call}
 use Rattle.dslx_meaning.specs.Rules.ConstantRules.{constant_of, is_unsigned}
 use Rattle.dslx_meaning.specs.Rules.TypeEnvs.{ExprPair, Instance, Judgement, TypeEnv, all_alone, alone, breaks, breaks_if, faults_of_all, has_broken, one_and, plus_size, reached_of_all, size_of_all, span_of, types_of, within}
 use Rattle.dslx_meaning.specs.Rules.Typings.{ArgPair}
-use Rattle.dslx_meaning.specs.Rules.Mentions.{is_cyclic}
 use Rattle.dslx_meaning.specs.Rules.OperatorRules.{is_bits, unless_type}
 use Rattle.dslx_core.proofs.Lemmas.Typing.Laws.{and_true}
-use Rattle.dslx_core.specs.Typing.Typed.Complete.{EachArgumentDeclared, IsWellTypedPart}
+use Rattle.dslx_core.specs.Typing.Typed.Complete.{EachArgumentDeclared, IsWellTypedPart, signature_at}
 use Rattle.dslx_core.specs.Typing.Typed.Declared.{AllDeclared, IsDeclared}
 use Rattle.dslx_core.specs.Typing.Typed.WellTyped.{IsWellTypedEnv, types_at}
-use Rattle.dslx_core.proofs.Lemmas.Typing.Typed.{all_are, declared_is, element_declared, list_parts, one_of_text}
+use Rattle.dslx_core.proofs.Lemmas.Typing.Typed.{all_are, element_declared, list_parts, one_of_text}
 use Rattle.dslx_core.proofs.Lemmas.Typing.Complete.{own_parametric_args}
 use Rattle.dslx_core.specs.Typing.Sound.Sound.{EachExprGives, ExprGives}
 use Rattle.dslx_core.proofs.Lemmas.Typing.Sound.{CallFound, all_in, all_in_three, call_found, none_in, none_in_three, passed, right_well_typed, settled_well_typed, some_fault, wrongly_called}
@@ -182,28 +181,30 @@ parametric_args_there here context env place h at (a ∷ as') (l ∷ ls) k f r (
     λ i. one i ∷ parametric_args_there here context env place h at as' ls k.2 p.1 q.1 vs w.1 i
 
 -- operands of the types that are declared for the arguments
-declared_for : (context : TypeEnv) (owner : List ℕ) (bound : List Given) (fs : List Field) (es : List ExprPair) (exprs : List LoweredExpr) → EachArgumentDeclared context.known owner bound fs → length es ≡ length fs
-    → types_of (all_alone context es) ≡ map Some (types_of_lowered exprs) → AllDeclared (types_at context) (types_of_lowered exprs) → operand_faults context.known owner (known_before bound) fs es (all_alone context es) ≡ []
-    → AreDeclaredFor context.known owner bound fs (types_of_lowered exprs)
-declared_for context owner bound [] [] [] known n typed d f = tt
-declared_for context owner bound [] [] (x ∷ xs) known n typed d f = some_fault (Some x.ty) (map Some (types_of_lowered xs)) (sym typed)
-declared_for context owner bound [] (e ∷ es) exprs known n typed d f = absurd (none_long n)
+declared_for : (context : TypeEnv) (ts : List (Option DslxType)) (fs : List Field) (es : List ExprPair) (exprs : List LoweredExpr) → EachArgumentDeclared (types_at context) ts fs → length es ≡ length fs
+    → types_of (all_alone context es) ≡ map Some (types_of_lowered exprs) → AllDeclared (types_at context) (types_of_lowered exprs) → operand_faults ts es (all_alone context es) ≡ []
+    → AreDeclaredFor ts (types_of_lowered exprs)
+declared_for context [] [] [] [] known n typed d f = tt
+declared_for context [] [] [] (x ∷ xs) known n typed d f = some_fault (Some x.ty) (map Some (types_of_lowered xs)) (sym typed)
+declared_for context [] [] (e ∷ es) exprs known n typed d f = absurd (none_long n)
   where
     none_long : suc (length es) ≡ 0 → ⊥
     none_long q = omega (arith, q)
-declared_for context owner bound (g ∷ fs) [] exprs known n typed d f = absurd (none_long n)
+declared_for context [] (g ∷ fs) es exprs known n typed d f = absurd known
+declared_for context (t ∷ ts) [] es exprs known n typed d f = absurd known
+declared_for context (t ∷ ts) (g ∷ fs) [] exprs known n typed d f = absurd (none_long n)
   where
     none_long : 0 ≡ suc (length fs) → ⊥
     none_long q = omega (arith, q)
-declared_for context owner bound (g ∷ fs) (e ∷ es) [] known n typed d f = some_fault (alone context e).ty (types_of (all_alone context es)) typed
-declared_for context owner bound (g ∷ fs) (e ∷ es) (x ∷ xs) known n typed d f =
-    let p = none_in (wanted_faults (span_of e) (declared_type context.known owner (known_before bound) g.ty) (alone context e).ty) (operand_faults context.known owner (known_before bound) fs es (all_alone context es)) f in
+declared_for context (t ∷ ts) (g ∷ fs) (e ∷ es) [] known n typed d f = some_fault (alone context e).ty (types_of (all_alone context es)) typed
+declared_for context (t ∷ ts) (g ∷ fs) (e ∷ es) (x ∷ xs) known n typed d f =
+    let p = none_in (wanted_faults (span_of e) t (alone context e).ty) (operand_faults ts es (all_alone context es)) f in
     let q = list_parts (alone context e).ty (Some x.ty) (types_of (all_alone context es)) (map Some (types_of_lowered xs)) typed in
     let fewer : length es ≡ length fs = omega (arith, n) in (
-      (λ t k.
-          let same = passed (same_type t x.ty) 9 (span_of e) ((λ i. wanted_faults (span_of e) (sym k i) (sym q.0 i)) ∙ p.0) in
-          one_of_text (types_at context) t x.ty same (known.0 t (declared_is context.known owner bound g.ty t k)) d.0),
-      declared_for context owner bound fs es xs known.1 fewer q.1 d.1 p.1,
+      (λ u k.
+          let same = passed (same_type u x.ty) 9 (span_of e) ((λ i. wanted_faults (span_of e) (sym k i) (sym q.0 i)) ∙ p.0) in
+          one_of_text (types_at context) u x.ty same (known.0 u k) d.0),
+      declared_for context ts fs es xs known.1 fewer q.1 d.1 p.1,
     )
 
 lower_total_called : (here : Instance → Bool) (span : Span) (context : TypeEnv) (env : Env) (place : CoreScope) (name : List ℕ) (f : Function) (as' : List ArgPair) (ls : List LoweredArg) (es : List ExprPair) (xs : List LoweredPair) (cyclic : List Fault)
@@ -224,14 +225,15 @@ lower_total_called here span context env place name f as' ls es xs cyclic k h at
     (call_found span context env name f as' ns.0 es cyclic ns.1 h is ts (subst (λ n. IsWellTypedPart context.known (right_call span context f gs es js cyclic n)) same (well_typed_there here context place (right_call span context f gs es js cyclic n) at well_typed))) in
     let parametric_args = parametric_args_there here context env place h at as' ls k w.parametric_args_given w.parametric_args_reach c.given c.written in
     let instance = and_true (here (record { name = owner; parametric_args = c.parametric_args })) true ((λ i. list_all here (reached_by (has_broken (sym w.no_cycle i) || sym w.right i) owner (sym c.all i))) ∙ w.found) in
-    let operands = ap (λ b. operand_faults context.known owner b f.arguments es js) (sym c.shown) ∙ ap (λ b. if◌then◌else◌ {A = List Fault} b [] (operand_faults context.known owner n.bound f.arguments es js)) (sym w.right) ∙ w.operands in
-    let fits = declared_for context owner (parametric_args_bound [] f.parametrics c.parametric_args) f.arguments es exprs c.arguments count typed declared operands in
+    let operands = ap (λ (b : Before). operand_faults (context.known.signature_in owner b.values).arguments es js) (sym c.shown)
+    ∙ ap (λ b. if◌then◌else◌ {A = List Fault} b [] (operand_faults (signature_seen context.known owner n).arguments es js)) (sym w.right) ∙ w.operands in
+    let fits = declared_for context (signature_at context.known owner c.parametric_args).arguments f.arguments es exprs c.arguments count typed declared operands in
     let callee = at.calls name f c.given c.parametric_args ts is c.found (own_parametric_args context.known owner [] f.parametrics c.parametric_args c.fit) instance.0 fits in
     (λ i. type_of_lowered (with_both (all_some (parametric_args i)) (all_some (are i)) (λ parametric_args es. and_then (place.known.callee name parametric_args (types_of_lowered es)) (λ callee. lowered (core.Call callee.number (cores_of es)) callee.result))))
     ∙ (λ i. type_of_lowered (with_both (all_are c.given i) (all_are exprs i) (λ parametric_args es. and_then (place.known.callee name parametric_args (types_of_lowered es)) (λ callee. lowered (core.Call callee.number (cores_of es)) callee.result))))
     ∙ ap (λ o. type_of_lowered (and_then o (λ callee. lowered (core.Call callee.number (cores_of exprs)) callee.result))) callee.is
-    ∙ sym (w.own ∙ (λ i. and_then (c.all i) (λ vs. when_all (typed i) (result_type context.known owner (c.shown i) f.result)))
-    ∙ ap (λ a. and_then a (λ us. result_type context.known owner (known_before (parametric_args_bound [] f.parametrics c.parametric_args)) f.result)) (all_are ts) ∙ callee.result)
+    ∙ sym (w.own ∙ (λ i. and_then (c.all i) (λ vs. when_all (typed i) (context.known.signature_in owner (c.shown i).values).result))
+    ∙ ap (λ a. and_then a (λ us. (signature_at context.known owner c.parametric_args).result)) (all_are ts) ∙ callee.result)
 
 pub lower_total_function : (span : Span) (name : Ident) (as' : List ArgPair) (ls : List LoweredArg) (es : List ExprPair) (xs : List LoweredPair) → EachNumber as' ls → EachExprLowers es xs
     → PartLowers (λ context. function_call span context name (given_parametric_args context as') es (all_alone context es) (as_function (item_named name.name context.known.whole.items)))
@@ -245,7 +247,7 @@ lower_total_function span name as' ls es xs kn kx here context env place h at we
     js = all_alone context es
 
     cycle : List Fault
-    cycle = breaks_if (is_cyclic context.known.whole context.owner name.name) 3 span
+    cycle = breaks_if (context.known.is_cyclic context.owner name.name) 3 span
 
     seen : Function → List (Option DslxType) → ParametricArgsSeen
     seen f ts = call_parametric_args context.known f gs ts

@@ -16,7 +16,6 @@ use Rattle.dslx_meaning.specs.declared.value.DslxValue.{DslxValue}
 use Rattle.dslx_meaning.specs.Rules.AggregateRules.{number_typing, range_faults}
 use Rattle.dslx_meaning.specs.Rules.TypeEnvs.{Instance, TypeEnv, breaks, breaks_if, limited, settled, typed_in}
 use Rattle.dslx_meaning.specs.Rules.Typings.{TypeExprTyping}
-use Rattle.dslx_meaning.specs.Rules.Mentions.{is_cyclic}
 use Rattle.dslx_meaning.specs.Rules.NameRules.{item_value, local_or_other, member_typing, name_typing, parametric_or_item, end_or_other}
 use Rattle.dslx_core.specs.Typing.Typed.Complete.{IsWellTypedPart}
 use Rattle.dslx_core.specs.Typing.Typed.Given.{GivesOf}
@@ -64,7 +63,7 @@ lower_total_name span name here context env place h at well_typed =
     by_item false f = some_fault (breaks 1 span) [] (settled_well_typed (reaching context.known here) span None (breaks 1 span ∷ []) [] (Some 1) f).faults
     by_item true f =
         literal_typed (context.known.items.constant name)
-        ∙ sym (settled_well_typed (reaching context.known here) span (option_map type_of_value (context.known.items.constant name)) (breaks_if (is_cyclic context.known.whole context.owner name) 3 span) [] (Some 1) f).ty
+        ∙ sym (settled_well_typed (reaching context.known here) span (option_map type_of_value (context.known.items.constant name)) (breaks_if (context.known.is_cyclic context.owner name) 3 span) [] (Some 1) f).ty
 
     by_globals : (b : Bool) → is_in name context.unknown ≡ b → IsWellTypedPart (reaching context.known here) (if b then settled span None [] [] (Some 1) else item_value span context name (context.known.items.is_constant name))
         → type_of_lowered (and_then (context.known.items.constant name) literal) ≡ (if b then settled span None [] [] (Some 1) else item_value span context name (context.known.items.is_constant name)).ty

@@ -15,7 +15,6 @@ use Rattle.dslx_meaning.specs.declared.value.DslxValue.{DslxValue}
 use Rattle.dslx_meaning.specs.Rules.ConstantRules.{is_empty}
 use Rattle.dslx_meaning.specs.Rules.TypeEnvs.{Instance, Judgement, TypeEnv, Typed, breaks, breaks_if, unlimited, with_typed}
 use Rattle.dslx_meaning.specs.Rules.Typings.{PatternPair, PatternSeen, TypeExprTyping}
-use Rattle.dslx_meaning.specs.Rules.Mentions.{is_cyclic}
 use Rattle.dslx_meaning.specs.Rules.NameRules.{member_typing}
 use Rattle.dslx_meaning.specs.Rules.PatternRules.{constant_pattern, first_part_type, is_there, name_pattern, nothing_bound, one_value, other_part_types, part_types, parts_typing, shape_faults, tuple_pattern}
 use Rattle.dslx_core.proofs.Lemmas.Typing.Laws.{and_true}
@@ -165,7 +164,7 @@ lower_total_name_pattern span name = record {
         let own = constant_pattern span context name (context.known.items.constant name) in
         let known = is_there (context.known.items.constant name) in
         let well_typed = own_well_typed here span may_fail context t names locals own known clean in
-        let typed = unlimited_type (option_map type_of_value (context.known.items.constant name)) (breaks_if (is_cyclic context.known.whole context.owner name) 3 span) [] (Some 1) well_typed.faults in
+        let typed = unlimited_type (option_map type_of_value (context.known.items.constant name)) (breaks_if (context.known.is_cyclic context.owner name) 3 span) [] (Some 1) well_typed.faults in
         subst (λ o. ShapeExists here (with_typed context locals) o) (ap (λ b. if b then value_shape (place.known.items.constant name) place t else shaped shape.Bound (with_local name t place)) (sym (q ∙ r)))
         (value_shaped here span may_fail context t names locals own known place (place.known.items.constant name) at d clean.faults
         (record {

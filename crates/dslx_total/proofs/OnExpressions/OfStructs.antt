@@ -18,7 +18,6 @@ use Rattle.dslx_meaning.specs.declared.ty.DslxType.TheViews as views
 use Rattle.dslx_meaning.specs.Rules.AggregateRules.{field_typing, field_type, has_twice, lacks_one, others_typing, struct_field_type, struct_if, struct_typing, struct_with, unknown_fields, wanted_faults, when_all, written_fields}
 use Rattle.dslx_meaning.specs.Rules.TypeEnvs.{ExprPair, Instance, Judgement, TypeEnv, alone, breaks, breaks_if, faults_of_all, no_token, one_and, plus_size, reached_of_all, size_of_all, span_of, types_of}
 use Rattle.dslx_meaning.specs.Rules.Typings.{FieldSeen}
-use Rattle.dslx_meaning.specs.Rules.Mentions.{is_cyclic}
 use Rattle.dslx_meaning.specs.Rules.NameRules.{name_typing}
 use Rattle.dslx_meaning.specs.Rules.PatternRules.{is_there}
 use Rattle.dslx_core.proofs.Lemmas.Typing.Laws.{and_true}
@@ -284,7 +283,7 @@ lower_total_struct span name fields ws others rest kf ko here context env place 
         other = others_typing context (Some S) others
 
         cyclic : List Fault
-        cyclic = breaks_if (is_cyclic context.known.whole context.owner name.name) 3 name.span
+        cyclic = breaks_if (context.known.is_cyclic context.owner name.name) 3 name.span
 
         names : List (List ℕ)
         names = map name_of_field declared.fields

@@ -14,16 +14,17 @@ use Rattle.dslx_tree.specs.declared.item.Field.{Field}
 use Rattle.dslx_tree.specs.declared.item.Definition.{Definition}
 use Rattle.dslx_core.proofs.Lemmas.Typing.Complete.{item_typed, none_own}
 use Rattle.dslx_core.proofs.Lemmas.Typing.Sound.{some_fault}
-use Rattle.dslx_meaning.specs.Rules.TypeEnvs.{Instance, GlobalEnv}
+use Rattle.dslx_meaning.specs.Rules.TypeEnvs.{Signature, Instance, GlobalEnv}
 use Rattle.dslx_meaning.specs.Rules.ItemRules.{function_type_env, item_type_env, typing_of_inner}
-use Rattle.dslx_meaning.specs.Rules.CallRules.{declared_type, known_before}
+use Rattle.dslx_meaning.specs.Rules.ModuleRules.{declared_type}
+use Rattle.dslx_meaning.specs.Rules.TypeRules.{unless_unit}
 use Rattle.dslx_meaning.specs.declared.value.DslxValue.{DslxValue}
 use Rattle.dslx_meaning.specs.Types.{is_unit}
 use Rattle.dslx_meaning.specs.Lists.{and_then, pairwise, where_true}
 use Rattle.dslx_meaning.specs.Items.{all_parametric_args, as_function, inferred_from, item_named, name_of_definition, parametric_args_bound}
 use Rattle.dslx_meaning.specs.Environment.{Given}
 use Rattle.dslx_total.specs.Expressions.Instances.{InstanceLowers}
-use Rattle.dslx_total.specs.Expressions.InstanceLists.{AreAsTyped, AreThere, CanLower, EachReachesThoseBefore, HaveTable, ReachesThese, is_among}
+use Rattle.dslx_total.specs.Expressions.InstanceLists.{AreThere, CanLower, EachReachesThoseBefore, HaveTable, ReachesThese, is_among}
 use Rattle.dslx_total.specs.Expressions.Beside.{AreDeclaredFor, CallsAreKnown, ScopeMatchesEnv}
 use Rattle.dslx_total.proofs.OnExpressions.OfInstances.{instance_is_lowered}
 use Rattle.dslx_total.proofs.OnExpressions.Equal.{equal_itself}
@@ -113,19 +114,19 @@ found_there known name parametric_args n (i ∷ is) (c ∷ cs) h e =
 -- ---- calls
 
 -- types that are declared for the arguments are those of the function
-arguments_equal : (known : GlobalEnv) (owner : List ℕ) (bound : List Given) (fs : List Field) → AreAsTyped known owner fs → (us ts : List DslxType)
-    → map (λ (a : Field). (typing_of_inner (item_type_env known owner bound) a.ty).ty) fs ≡ map Some us → list_all (λ t. not (is_unit t)) us ≡ true → AreDeclaredFor known owner bound fs ts → pairwise equal_type us ts ≡ true
-arguments_equal known owner bound [] types [] [] j u d = refl
-arguments_equal known owner bound [] types [] (t ∷ ts) j u d = absurd d
-arguments_equal known owner bound [] types (x ∷ us) ts j u d = some_fault (Some x) (map Some us) (sym j)
-arguments_equal known owner bound (g ∷ fs) types us [] j u d = absurd d
-arguments_equal known owner bound (g ∷ fs) types [] (t ∷ ts) j u d = some_fault (typing_of_inner (item_type_env known owner bound) g.ty).ty (map (λ (a : Field). (typing_of_inner (item_type_env known owner bound) a.ty).ty) fs) j
-arguments_equal known owner bound (g ∷ fs) types (x ∷ us) (t ∷ ts) j u d =
+arguments_equal : (known : GlobalEnv) (owner : List ℕ) (bound : List Given) (fs : List Field) (us ts : List DslxType)
+    → map (λ (a : Field). (typing_of_inner (item_type_env known owner bound) a.ty).ty) fs ≡ map Some us → list_all (λ t. not (is_unit t)) us ≡ true → AreDeclaredFor (map (λ (a : Field). declared_type (item_type_env known owner bound) a.ty) fs) ts → pairwise equal_type us ts ≡ true
+arguments_equal known owner bound [] [] [] j u d = refl
+arguments_equal known owner bound [] [] (t ∷ ts) j u d = absurd d
+arguments_equal known owner bound [] (x ∷ us) ts j u d = some_fault (Some x) (map Some us) (sym j)
+arguments_equal known owner bound (g ∷ fs) us [] j u d = absurd d
+arguments_equal known owner bound (g ∷ fs) [] (t ∷ ts) j u d = some_fault (typing_of_inner (item_type_env known owner bound) g.ty).ty (map (λ (a : Field). (typing_of_inner (item_type_env known owner bound) a.ty).ty) fs) j
+arguments_equal known owner bound (g ∷ fs) (x ∷ us) (t ∷ ts) j u d =
     let context = item_type_env known owner bound in
     let p = list_parts (typing_of_inner context g.ty).ty (Some x) (map (λ (a : Field). (typing_of_inner context a.ty).ty) fs) (map Some us) j in
     let q = and_true (not (is_unit x)) (list_all (λ t. not (is_unit t)) us) u in
-    let declared : declared_type known owner (known_before bound) g.ty ≡ Some x = ap (λ o. and_then o (λ t. if is_unit t then None else Some t)) (types.0 bound ∙ p.0) ∙ ap (λ b. if b then None else Some x) (is_false (is_unit x) q.0) in
-    λ i. (ap (equal_type x) (sym (d.0 x declared)) ∙ equal_itself x) i && arguments_equal known owner bound fs types.1 us ts p.1 q.1 d.1 i
+    let declared : declared_type context g.ty ≡ Some x = ap unless_unit p.0 ∙ ap (λ b. if b then None else Some x) (is_false (is_unit x) q.0) in
+    λ i. (ap (equal_type x) (sym (d.0 x declared)) ∙ equal_itself x) i && arguments_equal known owner bound fs us ts p.1 q.1 d.1 i
   where
     is_false : (b : Bool) → not b ≡ true → b ≡ false
     is_false true e = absurd (true≢false (sym e))
@@ -143,14 +144,15 @@ calls_known known can is cs table here among outer name f given parametric_args 
     let lowered = subst (λ g. InstanceLowers known g parametric_args (Some c.found.1.function)) one c.lowered in
     let function = same_some c.found.1.function lowered.function lowered.is in
     let bound = parametric_args_bound [] f.parametrics parametric_args in
-    let equal = arguments_equal known f.name.name bound f.arguments typing.arguments lowered.function.arguments types lowered.arguments lowered.inner fits in
+    let equal = arguments_equal known f.name.name bound f.arguments lowered.function.arguments types lowered.arguments lowered.inner
+    (subst (λ (x : Signature). AreDeclaredFor x.arguments types) (typing parametric_args) fits) in
     record {
       callee = record { number = c.found.0; result = c.found.1.function.result };
       is = ap (λ o. and_then o (λ f. and_then (all_parametric_args known.items (inferred_from f.arguments types) [] f.parametrics given) (λ parametric_args. and_then (instance_in name parametric_args 0 cs) (callee_of types)))) named
           ∙ ap (λ o. and_then o (λ parametric_args. and_then (instance_in name parametric_args 0 cs) (callee_of types))) found
           ∙ ap (λ o. and_then o (callee_of types)) c.is
           ∙ ap (λ b. where_true b (Some (record { number = c.found.0; result = c.found.1.function.result }))) (ap (λ (l : LoweredFunction). pairwise equal_type l.arguments types) function ∙ equal);
-      result = typing.result bound ∙ lowered.result ∙ ap (λ (l : LoweredFunction). Some l.result) (sym function);
+      result = ap (λ (x : Signature). x.result) (typing parametric_args) ∙ lowered.result ∙ ap (λ (l : LoweredFunction). Some l.result) (sym function);
     }
 
 -- ---- all instances

@@ -13,7 +13,6 @@ use Rattle.dslx_meaning.specs.declared.ty.DslxType as ty
 use Rattle.dslx_meaning.specs.Rules.ConstantRules.{count_faults, count_number, count_of, constant_or_untyped}
 use Rattle.dslx_meaning.specs.Rules.TypeEnvs.{ExprPair, Instance, TypeEnv, breaks, breaks_if, faults_of_all, reached_of_all, settled, types_of}
 use Rattle.dslx_meaning.specs.Rules.Typings.{TypePair}
-use Rattle.dslx_meaning.specs.Rules.Mentions.{is_cyclic}
 use Rattle.dslx_meaning.specs.Rules.TypeRules.{array_of, counted_type, inner_type, inner_types, named_bits, named_type, span_of_type, unit_faults}
 use Rattle.dslx_core.specs.Typing.Typed.Complete.{IsWellTypedPart}
 use Rattle.dslx_core.specs.Typing.Typed.WellTyped.{IsWellTypedEnv}
@@ -66,14 +65,14 @@ lower_total_named span name test here context env place h at well_typed = by_tes
     by_test false f = some_fault (breaks 1 span) [] (settled_well_typed (reaching context.known here) span None (breaks 1 span ∷ []) [] (Some 0) f).faults
     by_test true f =
         ap (λ (items : Meanings). items.type_named name) at.items
-        ∙ sym (settled_well_typed (reaching context.known here) span (context.known.items.type_named name) (breaks_if (is_cyclic context.known.whole context.owner name) 3 span) [] (Some 0) f).ty
+        ∙ sym (settled_well_typed (reaching context.known here) span (context.known.items.type_named name) (breaks_if (context.known.is_cyclic context.owner name) 3 span) [] (Some 0) f).ty
 
 pub named_wide : (span : Span) (name : List ℕ) (test : TypeEnv → Bool) → IsWide (λ context. named_type span context name (test context))
 named_wide span name test context names t e = by_test (test context) e
   where
     by_test : (b : Bool) → (named_type span context name b).ty ≡ Some t → has_widths t ≡ true
     by_test false q = none_some t q
-    by_test true q = names name t (settled_type (context.known.items.type_named name) (breaks_if (is_cyclic context.known.whole context.owner name) 3 span) t q).1
+    by_test true q = names name t (settled_type (context.known.items.type_named name) (breaks_if (context.known.is_cyclic context.owner name) 3 span) t q).1
 
 -- ---- types of types
 

@@ -1,38 +1,42 @@
 -- Parametrics of procs: what is known of their types and defaults is what is meant, and where nothing is wrong with them they
 -- are known.
-use Rattle.std.proofs.Common.{◌≡◌, ◌≤◌, ◌&&◌, ◌++◌, ℕ, zero, suc, length, Bool, true, not, List, [], ◌∷◌, Option, Some, None, arith, refl, sym, ap, subst, ◌∙◌}
+use Rattle.std.proofs.Common.{◌≡◌, ◌≤◌, ◌&&◌, ◌++◌, ℕ, zero, suc, length, Bool, true, not, List, [], ◌∷◌, map, Option, Some, None, arith, refl, sym, ap, subst, ◌∙◌}
 use mathlib.Core.Bool.{true≢false}
 use Rattle.std.specs.List.{list_all}
+use Rattle.dslx_tree.specs.declared.expr.Expr.{Expr}
 use Rattle.dslx_tree.specs.declared.item.Definition.{Definition}
 use Rattle.dslx_tree.specs.declared.item.Definition.TheVariants as d
 use Rattle.dslx_tree.specs.declared.item.Module.{Module}
 use Rattle.dslx_tree.specs.declared.item.Parametric.{Parametric}
+use Rattle.dslx_tree.specs.declared.type_expr.TypeExpr.{TypeExpr}
 use Rattle.dslx_tree.specs.declared.process.End.{End}
 use Rattle.dslx_tree.specs.declared.process.Proc.{Proc}
 use Rattle.dslx_meaning.specs.Environment.{Given}
-use Rattle.dslx_meaning.specs.Items.{item_named, with_number}
-use Rattle.dslx_meaning.specs.Rules.TypeEnvs.{DefaultSeen, Judgement, GlobalEnv, TypeEnv}
-use Rattle.dslx_meaning.specs.Rules.ItemRules.{item_type_env, typing_of_type}
+use Rattle.dslx_meaning.specs.Items.{item_named, parametric_args_bound, with_number}
+use Rattle.dslx_meaning.specs.declared.value.DslxValue.{DslxValue}
+use Rattle.dslx_meaning.specs.Rules.TypeEnvs.{DefaultSeen, Judgement, GlobalEnv, Signature}
+use Rattle.dslx_meaning.specs.Rules.ItemRules.{item_type_env, typing_of_inner, typing_of_type}
 use Rattle.dslx_meaning.specs.Rules.Mentions.{AsEnum, Mention, ends_mentions, expr_if, is_of_use, item_reaches, mentioned, mentioned_in_type, mentions_of, names_mentioned, parametric_names, parametrics_mentions}
-use Rattle.dslx_meaning.specs.Rules.ModuleRules.{globals_of, globals_over, globals_within}
+use Rattle.dslx_meaning.specs.Rules.ModuleRules.{declared_type, default_if, default_known, globals_of, globals_over, globals_within, parametrics_of}
+use Rattle.dslx_meaning.specs.Rules.TypeRules.{unless_unit}
 use Rattle.dslx_meaning.specs.Rules.NodeRules.{expr_pair, type_pair}
 use Rattle.dslx_core.specs.Typing.TypingRelations.Closed.{ends_within}
-use Rattle.dslx_core.specs.Typing.TypingRelations.Reached.{EachParametricReaches}
-use Rattle.dslx_core.proofs.Lemmas.Typing.TypingRelations.{closed, den_reach, parametrics_reach}
-use Rattle.dslx_core.specs.Typing.Depends.Alike.{EachParametricAlike, NamesAlike, SeesAlike}
+use Rattle.dslx_core.specs.Typing.TypingRelations.Reached.{DeclarationReaches, MentionsReach}
+use Rattle.dslx_core.proofs.Lemmas.Typing.TypingRelations.{closed, den_reach, parametrics_reach, whole_is}
+use Rattle.dslx_core.specs.Typing.Depends.Alike.{DeclaredAlike, NamesAlike, SeesAlike}
 use Rattle.dslx_core.specs.Typing.Depends.Settled.{AreNoConstants, BindsNoConstant}
-use Rattle.dslx_core.proofs.Lemmas.Typing.Depends.{Stage, constant_alike, constant_same, expression_alike, inner_same, is_proc_item, den_parts, names_no_procs, parametrics_none, passes, passes_closed, plain_alike, reached_in, sees_where, stage, written_type_alike}
-use Rattle.dslx_core.specs.Typing.Typed.Complete.{EachParametricKnown, IsComplete, IsDefaultKnown, IsWellTypedPart, IsTypeKnown}
-use Rattle.dslx_core.specs.Typing.Typed.Numbers.{AreOwn, ParametricsMean}
+use Rattle.dslx_core.proofs.Lemmas.Typing.Depends.{Stage, Stands, declared_alike, default_is, env_behind, parameter_is, signature_is, stands_next, constant_alike, constant_same, expression_alike, inner_same, is_proc_item, den_parts, names_no_procs, parametrics_none, passes, passes_closed, plain_alike, reached_in, sees_where, stage, written_type_alike}
+use Rattle.dslx_core.specs.Typing.Typed.Complete.{EachParametricKnown, IsComplete, IsDefaultKnown, IsWellTypedPart, IsTypeKnown, signature_at}
+use Rattle.dslx_core.specs.Typing.Typed.Numbers.{AreOwn, ParametricsMean, values_behind}
 use Rattle.dslx_core.proofs.Lemmas.Typing.Typed.{own_more, own_value}
 use Rattle.dslx_core.specs.Typing.Complete.HasValue.{AreTyped}
 use Rattle.dslx_core.proofs.Lemmas.Typing.Complete.{parametric_has_value}
 use Rattle.dslx_total.proofs.OnFamilies.Reached.{IsProcOf, ends_none, proc_within}
 
--- what is known of the types of the words of ends is what they are typed to
-abbrev pub EachEndAlike : GlobalEnv → List ℕ → List End → Type 0
-EachEndAlike known owner [] = Unit {0}
-EachEndAlike known owner (e ∷ es) = ((so_far : List Given) → known.type_in owner so_far [] e.word ≡ (typing_of_type (item_type_env known owner so_far) e.word).ty) × EachEndAlike known owner es
+-- the types of the words of ends that are known for instances of a proc are what they are typed to in its text
+abbrev pub EndsAreTyped : GlobalEnv → Proc → Type 0
+EndsAreTyped known p = (parametric_args : List DslxValue) → (signature_at known p.name.name parametric_args).arguments
+    ≡ map (λ (e : End). declared_type (item_type_env known p.name.name (parametric_args_bound [] p.parametrics parametric_args)) e.word) p.config.ends
 
 -- ---- by one item more in chains
 
@@ -66,34 +70,55 @@ module _ (m : Module) (plain : BindsNoConstant m) (k : ℕ) (owner : List ℕ) (
   sees = sees_where Passing m a b (passes_closed m k) there owner
       (λ name e q i. reached_in (ends_within m k) m (closed m k) (length m.items) owner name own (sym (λ t. item_reaches (there.text t) owner name) ∙ e) i && no_proc_enum (item_named name m.items) q i)
 
-  abbrev type_env_at : List Given → List (List ℕ) → TypeEnv
-  type_env_at parametric_args unknown = record { known = a; owner = owner; parametric_args = parametric_args; unknown = unknown; ends = []; locals = []; members = []; used = [] }
+  -- parametrics that are left behind these names, and what they mention
+  record LeftAlike (bound : List (List ℕ)) (left : List Parametric) : Type 0 where
+    hidden : NamesAlike a b bound
+    others : NamesAlike a b (parametric_names left)
+    mentions : ExprDen (parametrics_mentions left bound)
 
-  pub parametrics_alike : (ps : List Parametric) (bound : List (List ℕ)) → NamesAlike a b bound → NamesAlike a b (parametric_names ps) → ExprDen (parametrics_mentions ps bound) → EachParametricAlike b (globals_over b) owner ps
-  parametrics_alike [] bound n hidden h = tt
-  parametrics_alike (p ∷ ps) bound n hidden h =
-      let front = den_parts Passing m (mentioned_in_type p.ty bound ++ expr_if p.default bound) (parametrics_mentions ps (p.name.name ∷ bound)) h in
-      let both = den_parts Passing m (mentioned_in_type p.ty bound) (expr_if p.default bound) front.0 in
-      let typed = λ (parametric_args : List Given) (unknown : List (List ℕ)). written_type_alike Passing p.ty bound (type_env_at parametric_args unknown) b (sees bound n (mentioned_in_type p.ty bound) both.0) in (
-        record {
-          ty = λ so_far unknown. ap (λ (j : Judgement). j.ty) (typed so_far unknown);
-          seen = λ so_far. inner_same (type_env_at so_far []) b (type_pair p.ty) (typed so_far []);
-          default = λ so_far e q.
-              let c = constant_same Passing (type_env_at so_far []) b (expr_pair e) there.known
-              (constant_alike Passing (expr_pair e) (mentioned e) (expression_alike Passing e) bound (type_env_at so_far []) b (sees bound n (mentioned e bound) (subst (λ o. ExprDen (expr_if o bound)) q both.1))) in
-              λ i. record { judgement = (c i).judgement; value = (c i).value };
-        },
-        parametrics_alike ps (p.name.name ∷ bound) (hidden.0, n) hidden.1 front.1,
-      )
+  left_next : (bound : List (List ℕ)) (p : Parametric) (ps : List Parametric) → LeftAlike bound (p ∷ ps) → LeftAlike (p.name.name ∷ bound) ps
+  left_next bound p ps h = record {
+    hidden = (h.others.0, h.hidden);
+    others = h.others.1;
+    mentions = (den_parts Passing m (mentioned_in_type p.ty bound ++ expr_if p.default bound) (parametrics_mentions ps (p.name.name ∷ bound)) h.mentions).1;
+  }
 
-  -- the types of the words of ends, at the item and one item further
-  pub ends_alike : (es : List End) (bound : List (List ℕ)) → NamesAlike a b bound → ExprDen (ends_mentions es bound) → EachEndAlike b owner es
-  ends_alike [] bound n h = tt
-  ends_alike (e ∷ es) bound n h =
-      let both = den_parts Passing m (mentioned_in_type e.word bound) (ends_mentions es bound) h in (
-        λ so_far. ap (λ (j : Judgement). j.ty) (written_type_alike Passing e.word bound (type_env_at so_far []) b (sees bound n (mentioned_in_type e.word bound) both.0)),
-        ends_alike es bound n both.1,
-      )
+  -- the first one's type and default
+  first_den : (bound : List (List ℕ)) (p : Parametric) (ps : List Parametric) → LeftAlike bound (p ∷ ps) → ExprDen (mentioned_in_type p.ty bound) × ExprDen (expr_if p.default bound)
+  first_den bound p ps h =
+      den_parts Passing m (mentioned_in_type p.ty bound) (expr_if p.default bound) (den_parts Passing m (mentioned_in_type p.ty bound ++ expr_if p.default bound) (parametrics_mentions ps (p.name.name ∷ bound)) h.mentions).0
+
+  type_alike : (bound : List (List ℕ)) → NamesAlike a b bound → (t : TypeExpr) → ExprDen (mentioned_in_type t bound) → (given : List Given) (unknown : List (List ℕ))
+      → typing_of_type (env_behind a owner given unknown) t ≡ typing_of_type (env_behind b owner given unknown) t
+  type_alike bound n t h given unknown = written_type_alike Passing t bound (env_behind a owner given unknown) b (sees bound n (mentioned_in_type t bound) h)
+
+  default_alike : (bound : List (List ℕ)) → NamesAlike a b bound → (o : Option Expr) → ExprDen (expr_if o bound) → (given : List Given) (unknown : List (List ℕ))
+      → default_if (env_behind a owner given unknown) o ≡ default_if (env_behind b owner given unknown) o
+  default_alike bound n None h given unknown = refl
+  default_alike bound n (Some e) h given unknown =
+      let c = constant_same Passing (env_behind a owner given unknown) b (expr_pair e) there.known
+      (constant_alike Passing (expr_pair e) (mentioned e) (expression_alike Passing e) bound (env_behind a owner given unknown) b (sees bound n (mentioned e bound) h)) in
+      λ i. record { judgement = (c i).judgement; value = (c i).value }
+
+  ends_alike : (es : List End) (bound : List (List ℕ)) → NamesAlike a b bound → ExprDen (ends_mentions es bound) → (given : List Given) (unknown : List (List ℕ))
+      → map (λ (e : End). declared_type (env_behind a owner given unknown) e.word) es ≡ map (λ (e : End). declared_type (env_behind b owner given unknown) e.word) es
+  ends_alike [] bound n h given unknown = refl
+  ends_alike (e ∷ es) bound n h given unknown =
+      let both = den_parts Passing m (mentioned_in_type e.word bound) (ends_mentions es bound) h in
+      λ i. unless_unit (type_alike bound n e.word both.0 given unknown i).ty ∷ ends_alike es bound n both.1 given unknown i
+
+  -- what a proc declares, at the item and one item further
+  pub proc_alike : (p : Proc) → item_named owner m.items ≡ Some (d.Proc p) → NamesAlike a b (parametric_names p.parametrics) → ExprDen (parametrics_mentions p.parametrics [])
+      → ExprDen (ends_mentions p.config.ends (parametric_names p.parametrics)) → DeclaredAlike b (globals_over b) owner
+  proc_alike p is none ps es =
+      declared_alike a b owner (d.Proc p) (at (whole_is m k)) (at (whole_is m k)) LeftAlike left_next
+      (λ bound q qs h given unknown. inner_same (env_behind a owner given unknown) b (type_pair q.ty) (type_alike bound h.hidden q.ty (first_den bound q qs h).0 given unknown))
+      (λ bound q qs h given unknown. default_alike bound h.hidden q.default (first_den bound q qs h).1 given unknown)
+      (λ given unknown i. record { arguments = ends_alike p.config.ends (parametric_names p.parametrics) none es given unknown i; result = None })
+      (record { hidden = tt; others = none; mentions = ps })
+    where
+      at : {n : Module} → n ≡ m → item_named owner n.items ≡ Some (d.Proc p)
+      at same = (λ i. item_named owner (same i).items) ∙ is
 
 -- ---- of the whole text
 
@@ -114,65 +139,73 @@ module _ (m : Module) (plain : BindsNoConstant m) (p : Proc) (named : IsProcOf m
       names_no_procs m k (parametrics_mentions p.parametrics []) (parametrics_none p.parametrics [])
       (proc_within m k p ((λ i. list_all (ends_within m k) (mentions_of m (sym named i))) ∙ h)).parametrics
 
-  pub globals_alike : AreNoConstants m (parametric_names p.parametrics) → EachParametricAlike (globals_of m) (globals_over (globals_of m)) p.name.name p.parametrics
-  globals_alike hidden = one_longer m p.name.name ends (λ k e.
-      let h : mentions_at k = (λ i. ends_within m (sym e i) p.name.name) ∙ ends in
-      let less : k ≤ k = omega arith in
-      let more : k ≤ suc k = omega arith in
-      subst (λ n. EachParametricAlike (globals_within m n) (globals_over (globals_within m n)) p.name.name p.parametrics) (sym e)
-      (parametrics_alike m plain k p.name.name h p.parametrics [] tt
-      (plain_alike (passes m k) m (globals_within m k) (globals_within m (suc k)) (passes_closed m k) (stage m plain k k (suc k) less more) (parametric_names p.parametrics) hidden) (own_parametrics k h)))
-
   own_ends : (k : ℕ) → mentions_at k → list_all (passes m k) (names_mentioned m (ends_mentions p.config.ends (parametric_names p.parametrics))) ≡ true
   own_ends k h =
       let bound = parametric_names p.parametrics in
       names_no_procs m k (ends_mentions p.config.ends bound) (ends_none p.config.ends bound) (proc_within m k p ((λ i. list_all (ends_within m k) (mentions_of m (sym named i))) ∙ h)).ends
 
-  pub own_ends_alike : AreNoConstants m (parametric_names p.parametrics) → EachEndAlike (globals_of m) p.name.name p.config.ends
-  own_ends_alike hidden = one_longer m p.name.name ends (λ k e.
+  pub globals_alike : AreNoConstants m (parametric_names p.parametrics) → DeclaredAlike (globals_of m) (globals_over (globals_of m)) p.name.name
+  globals_alike hidden = one_longer m p.name.name ends (λ k e.
       let h : mentions_at k = (λ i. ends_within m (sym e i) p.name.name) ∙ ends in
       let less : k ≤ k = omega arith in
       let more : k ≤ suc k = omega arith in
-      subst (λ n. EachEndAlike (globals_within m n) p.name.name p.config.ends) (sym e)
-      (ends_alike m plain k p.name.name h p.config.ends (parametric_names p.parametrics)
-      (plain_alike (passes m k) m (globals_within m k) (globals_within m (suc k)) (passes_closed m k) (stage m plain k k (suc k) less more) (parametric_names p.parametrics) hidden) (own_ends k h)))
+      subst (λ n. DeclaredAlike (globals_within m n) (globals_over (globals_within m n)) p.name.name) (sym e)
+      (proc_alike m plain k p.name.name h p named
+      (plain_alike (passes m k) m (globals_within m k) (globals_within m (suc k)) (passes_closed m k) (stage m plain k k (suc k) less more) (parametric_names p.parametrics) hidden) (own_parametrics k h) (own_ends k h)))
+
+  -- it has the item in what is known
+  pub proc_known : item_named p.name.name (globals_of m).whole.items ≡ Some (d.Proc p)
+  proc_known = (λ i. item_named p.name.name (whole_is m (length m.items) i).items) ∙ named
+
+  pub own_ends_alike : AreNoConstants m (parametric_names p.parametrics) → EndsAreTyped (globals_of m) p
+  own_ends_alike hidden parametric_args =
+      ap (λ (x : Signature). x.arguments) ((globals_alike hidden).signature (values_behind [] parametric_args) ∙ signature_is p.name.name (d.Proc p) parametric_args (globals_of m) proc_known)
 
   -- what their types and defaults reach passes
-  pub parametrics_pass : EachParametricReaches (passes m (length m.items)) (globals_of m) p.name.name p.parametrics
+  pub parametrics_pass : DeclarationReaches (passes m (length m.items)) (globals_of m) p.name.name
   parametrics_pass = one_longer m p.name.name ends (λ k e.
       let P = passes m (length m.items) in
       let within = proc_within m (length m.items) p ((λ i. list_all (ends_within m (length m.items)) (mentions_of m (sym named i))) ∙ closed m (length m.items) p.name.name ends) in
-      subst (λ n. EachParametricReaches P (globals_within m n) p.name.name p.parametrics) (sym e)
-      (parametrics_reach P (globals_within m k) p.name.name p.parametrics []
-      (den_reach P m (passes_closed m (length m.items)) k (parametrics_mentions p.parametrics []) (names_no_procs m (length m.items) (parametrics_mentions p.parametrics []) (parametrics_none p.parametrics []) within.parametrics))))
+      let here : item_named p.name.name (globals_within m k).whole.items ≡ Some (d.Proc p) = (λ i. item_named p.name.name (whole_is m k i).items) ∙ named in
+      subst (λ n. DeclarationReaches P (globals_within m n) p.name.name) (sym e)
+      (parametrics_reach P (globals_within m k) p.name.name
+      (subst (λ o. MentionsReach P (globals_within m k) (parametrics_mentions (parametrics_of o) [])) (sym here)
+      (den_reach P m (passes_closed m (length m.items)) k (parametrics_mentions p.parametrics []) (names_no_procs m (length m.items) (parametrics_mentions p.parametrics []) (parametrics_none p.parametrics []) within.parametrics)))))
 
 -- ---- what is known
 
-module _ (known : GlobalEnv) (complete : IsComplete known) (typed : AreTyped known) (owner : List ℕ) where
-  abbrev OverAlike : List Parametric → Type 0
-  OverAlike ps = EachParametricAlike known (globals_over known) owner ps
+module _ (known : GlobalEnv) (complete : IsComplete known) (typed : AreTyped known) (owner : List ℕ) (x : Definition) (named : item_named owner known.whole.items ≡ Some x) (alike : DeclaredAlike known (globals_over known) owner) where
+  abbrev Here : List (Option DslxValue) → List Given → List Parametric → Type 0
+  Here = Stands owner x
 
-  pub parametrics_mean : (so_far : List Given) → AreOwn known.items.type_named so_far → (ps : List Parametric) → OverAlike ps → ParametricsMean known known.items owner so_far ps
-  parametrics_mean so_far own [] a = tt
-  parametrics_mean so_far own (p ∷ ps) a =
+  parameter_at : (before : List (Option DslxValue)) (so_far : List Given) (p : Parametric) (ps : List Parametric) → Here before so_far (p ∷ ps) → known.parameter_in owner before ≡ typing_of_inner (item_type_env known owner so_far) p.ty
+  parameter_at before so_far p ps h = alike.parameter before ∙ parameter_is owner x before so_far p ps h known named
+
+  default_at : (before : List (Option DslxValue)) (so_far : List Given) (p : Parametric) (ps : List Parametric) → Here before so_far (p ∷ ps) → (e : Expr) → p.default ≡ Some e → known.default_in owner before ≡ default_known (item_type_env known owner so_far) e
+  default_at before so_far p ps h e q = alike.default before ∙ default_is owner x before so_far p ps h known named ∙ ap (default_if (item_type_env known owner so_far)) q
+
+  pub parametrics_mean : (before : List (Option DslxValue)) (so_far : List Given) → AreOwn known.items.type_named so_far → (ps : List Parametric) → Here before so_far ps → ParametricsMean known known.items owner before so_far ps
+  parametrics_mean before so_far own [] h = tt
+  parametrics_mean before so_far own (p ∷ ps) h =
       let st = parametric_has_value known complete typed owner p in (
         record {
-          types = λ t e. (st.means so_far t own (sym (a.0.ty so_far []) ∙ e)).0;
-          defaults = λ e v q r. st.default_means so_far e v (ap (λ (x : DefaultSeen). x.value) (sym (a.0.default so_far e q)) ∙ r);
+          types = λ t e. (st.means so_far t own (ap (λ (j : Judgement). j.ty) (sym (parameter_at before so_far p ps h)) ∙ e)).0;
+          defaults = λ e v q r. st.default_means so_far e v (ap (λ (x : DefaultSeen). x.value) (sym (default_at before so_far p ps h e q)) ∙ r);
         },
-        λ t v e g. parametrics_mean (with_number so_far p v) (own_more known.items.type_named so_far p v own (own_value known.items.type_named t (Some v) v refl g)) ps a.1,
+        λ t v e g. parametrics_mean (Some v ∷ before) (with_number so_far p v) (own_more known.items.type_named so_far p v own (own_value known.items.type_named t (Some v) v refl g)) ps (stands_next owner x before so_far p ps v h),
       )
 
-  pub parametrics_known : (so_far : List Given) → AreOwn known.items.type_named so_far → (ps : List Parametric) → OverAlike ps → EachParametricKnown known owner so_far ps
-  parametrics_known so_far own [] a = tt
-  parametrics_known so_far own (p ∷ ps) a =
-      let st = parametric_has_value known complete typed owner p in (
+  pub parametrics_known : (before : List (Option DslxValue)) (so_far : List Given) → AreOwn known.items.type_named so_far → (ps : List Parametric) → Here before so_far ps → EachParametricKnown known owner before ps
+  parametrics_known before so_far own [] h = tt
+  parametrics_known before so_far own (p ∷ ps) h =
+      let st = parametric_has_value known complete typed owner p in
+      let here = parameter_at before so_far p ps h in (
         record {
-          declared = λ t e. (st.means so_far t own (sym (a.0.ty so_far []) ∙ e)).1;
-          typed = λ well_typed. subst IsTypeKnown (sym (a.0.ty so_far [])) (st.typed so_far own (subst (IsWellTypedPart known) (a.0.seen so_far) well_typed));
+          declared = λ t e. (st.means so_far t own (ap (λ (j : Judgement). j.ty) (sym here) ∙ e)).1;
+          typed = λ well_typed. subst IsTypeKnown (ap (λ (j : Judgement). j.ty) (sym here)) (st.typed so_far own (subst (IsWellTypedPart known) here well_typed));
           default = λ e q well_typed.
-              let same = a.0.default so_far e q in
+              let same = default_at before so_far p ps h e q in
               subst (IsDefaultKnown known.items.type_named) (sym same) (st.default so_far e own (subst (IsWellTypedPart known) (ap (λ (x : DefaultSeen). x.judgement) same) well_typed));
         },
-        λ t v e g. parametrics_known (with_number so_far p v) (own_more known.items.type_named so_far p v own (own_value known.items.type_named t (Some v) v refl g)) ps a.1,
+        λ t v e g. parametrics_known (Some v ∷ before) (with_number so_far p v) (own_more known.items.type_named so_far p v own (own_value known.items.type_named t (Some v) v refl g)) ps (stands_next owner x before so_far p ps v h),
       )

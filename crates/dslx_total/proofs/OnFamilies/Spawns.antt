@@ -10,6 +10,7 @@ use Rattle.dslx_tree.specs.declared.item.Definition.{Definition}
 use Rattle.dslx_tree.specs.declared.item.Definition.TheVariants as d
 use Rattle.dslx_tree.specs.declared.item.Module.{Module}
 use Rattle.dslx_tree.specs.declared.process.ConfigStatement.TheVariants as config_statement
+use Rattle.dslx_tree.specs.declared.process.End.{End}
 use Rattle.dslx_tree.specs.declared.process.Proc.{Proc}
 use Rattle.dslx_tree.specs.declared.process.Spawn.{Spawn}
 use Rattle.dslx_meaning.specs.Environment.{Env}
@@ -18,12 +19,12 @@ use Rattle.dslx_meaning.specs.Lists.{all_some, and_then}
 use Rattle.dslx_meaning.specs.Meaning.{arg_denotation}
 use Rattle.dslx_meaning.specs.Network.{as_proc, spawn_parametric_args}
 use Rattle.dslx_meaning.specs.declared.value.DslxValue.{DslxValue}
-use Rattle.dslx_meaning.specs.Rules.CallRules.{ParametricArgument, JudgedThere, ParametricArgsSeen, given_judgements, given_parametric_args, is_refused, typing_there, known_before, reached_by}
+use Rattle.dslx_meaning.specs.Rules.CallRules.{Before, ParametricArgument, JudgedThere, ParametricArgsSeen, given_judgements, given_parametric_args, is_refused, typing_there, known_before, reached_by, signature_seen}
 use Rattle.dslx_meaning.specs.Rules.ItemRules.{only_faults}
 use Rattle.dslx_meaning.specs.Rules.TypeEnvs.{Instance, GlobalEnv, TypeEnv, breaks, breaks_if, faults_of_all, has_broken, reached_of_all}
 use Rattle.dslx_meaning.specs.Rules.Typings.{ArgPair}
-use Rattle.dslx_meaning.specs.Rules.Mentions.{AsProc, is_cyclic, config_statement_mentions, mention, mentioned_in_arg}
-use Rattle.dslx_meaning.specs.Rules.ModuleRules.{is_reached}
+use Rattle.dslx_meaning.specs.Rules.Mentions.{AsProc, config_statement_mentions, mention, mentioned_in_arg}
+use Rattle.dslx_meaning.specs.Rules.ModuleRules.{declared_type, is_reached}
 use Rattle.dslx_meaning.specs.Rules.NodeRules.{arg_pair}
 use Rattle.dslx_meaning.specs.Rules.ProcRules.{Made, behind_ends, handed_faults, proc_parametric_args, proc_type_env, right_spawn, spawn_found, spawn_of, unknown_ends}
 use Rattle.dslx_core.proofs.Lemmas.Typing.Laws.{and_true}
@@ -31,16 +32,16 @@ use Rattle.dslx_core.specs.Typing.TypingRelations.Closed.{ends_within}
 use Rattle.dslx_core.proofs.Lemmas.Typing.TypingRelations.{arguments_reach, every_item, given_reach, item_so_named, parametric_args_reach, whole_is}
 use Rattle.dslx_core.specs.Typing.Sound.Sound.{EachExprGives}
 use Rattle.dslx_core.proofs.Lemmas.Typing.Sound.{AreGiven, EachGiven, all_in, argument_gives, typing_right, none_in, not_broken, parametric_args_given, parametric_args_known, some_fault}
-use Rattle.dslx_core.proofs.Lemmas.Typing.Depends.{den_parts}
+use Rattle.dslx_core.proofs.Lemmas.Typing.Depends.{den_parts, stands_first}
 use Rattle.dslx_core.specs.Typing.Typed.Complete.{IsComplete}
-use Rattle.dslx_core.specs.Typing.Typed.Numbers.{AllOwn, GivenMean}
+use Rattle.dslx_core.specs.Typing.Typed.Numbers.{AllOwn, GivenMean, values_behind}
 use Rattle.dslx_core.specs.Typing.Typed.WellTyped.{IsWellTypedEnv}
 use Rattle.dslx_core.proofs.Lemmas.Typing.Typed.{all_are, parametric_args_found}
 use Rattle.dslx_core.specs.Typing.Complete.HasValue.{AreTyped}
 use Rattle.dslx_core.proofs.Lemmas.Typing.Complete.{item_env, none_own, own_parametric_args}
 use Rattle.dslx_core.proofs.Lemmas.Typing.Accepted.{IsAccepted}
 use Rattle.dslx_total.specs.Families.Plain.{ProcsBindNoConstant}
-use Rattle.dslx_total.proofs.OnFamilies.Parametrics.{globals_alike, parametrics_known, parametrics_mean, parametrics_pass}
+use Rattle.dslx_total.proofs.OnFamilies.Parametrics.{globals_alike, own_ends_alike, parametrics_known, parametrics_mean, parametrics_pass, proc_known}
 use Rattle.dslx_total.proofs.OnFamilies.Reached.{IsProcOf, K, Listed, Passing, Within, all, all_sound, arguments_none, most, reaching}
 
 abbrev is_there : {A : Type 0} → Option A → Bool
@@ -98,7 +99,7 @@ module _ (m : Module) (top : Option (List ℕ)) (s : IsAccepted m top) (procs : 
     pub is : (proc_parametric_args known target gs).values ≡ Some parametric_args
     pub own : AllOwn known.items.type_named parametric_args
     pub found : all_parametric_args known.items [] [] target.parametrics given ≡ Some parametric_args
-    pub shown : (proc_parametric_args known target gs).bound ≡ known_before (parametric_args_bound [] target.parametrics parametric_args)
+    pub shown : (proc_parametric_args known target gs).bound ≡ known_before (values_behind [] parametric_args)
 
   pub target_ends : (target : Proc) → IsProcOf m target → ends_within m (length m.items) target.name.name ≡ true
   target_ends target named = every_item m s.free target.name.name (d.Proc target) named
@@ -110,15 +111,17 @@ module _ (m : Module) (top : Option (List ℕ)) (s : IsAccepted m top) (procs : 
       let owner = target.name.name in
       let ends = target_ends target named in
       let alike = globals_alike m s.plain target named ends (procs name target is) in
+      let here = proc_known m s.plain target named ends in
+      let all = stands_first owner (d.Proc target) in
       let seen = proc_parametric_args known target gs in
       let passing = parametric_args_reach (Passing m top s) known owner [] [] (known_before []) target.parametrics gs (parametrics_pass m s.plain target named ends) in
-      let k = parametric_args_known known owner [] [] target.parametrics gs (parametrics_known known complete typed owner [] (none_own known) target.parametrics alike) each
+      let k = parametric_args_known known owner [] [] target.parametrics gs (parametrics_known known complete typed owner (d.Proc target) here alike [] [] (none_own known) target.parametrics all) each
       (record { given = f; declared = j; reached = all_sound m top s seen.declared.reached passing r; right = w }) in
       record {
         parametric_args = k.parametric_args;
         is = k.all;
         own = own_parametric_args known owner [] target.parametrics k.parametric_args k.fit;
-        found = parametric_args_found known known.items owner [] [] [] target.parametrics gs vs k.parametric_args (parametrics_mean known complete typed owner [] (none_own known) target.parametrics alike) k.fit mean k.all;
+        found = parametric_args_found known known.items owner [] [] [] [] target.parametrics gs vs k.parametric_args (parametrics_mean known complete typed owner (d.Proc target) here alike [] [] (none_own known) target.parametrics all) k.fit mean k.all;
         shown = k.shown;
       }
 
@@ -132,7 +135,7 @@ module _ (m : Module) (top : Option (List ℕ)) (s : IsAccepted m top) (procs : 
     pub among : test (record { name = target.name.name; parametric_args = parametric_args }) ≡ true
     pub many : (length sp.ends == length target.config.ends) ≡ true
     pub ends : unknown_ends made.names sp.ends ≡ []
-    pub handed : handed_faults known target.name.name (known_before (parametric_args_bound [] target.parametrics parametric_args)) made target.config.ends sp.ends ≡ []
+    pub handed : handed_faults made (map (λ (e : End). declared_type (proc_type_env known target parametric_args) e.word) target.config.ends) target.config.ends sp.ends ≡ []
 
   module _ (p : Proc) (own : List DslxValue) (well : IsWellTypedEnv (proc_type_env known p own) (item_env known (parametric_args_bound [] p.parametrics own))) where
     abbrev context : TypeEnv
@@ -148,10 +151,10 @@ module _ (m : Module) (top : Option (List ℕ)) (s : IsAccepted m top) (procs : 
     seen made sp target = proc_parametric_args known target (gs made sp)
 
     abbrev cyclic : Spawn → Proc → List Fault
-    cyclic sp target = breaks_if (is_cyclic known.whole p.name.name target.name.name) 3 sp.span
+    cyclic sp target = breaks_if (known.is_cyclic p.name.name target.name.name) 3 sp.span
 
     abbrev handed : Made → Spawn → Proc → List Fault
-    handed made sp target = if (seen made sp target).is_wrong then [] else handed_faults known target.name.name (seen made sp target).bound made target.config.ends sp.ends
+    handed made sp target = if (seen made sp target).is_wrong then [] else handed_faults made (signature_seen known target.name.name (seen made sp target)).arguments target.config.ends sp.ends
 
     right : (made : Made) (sp : Spawn) (bound : List (List ℕ)) (target : Proc) → as_proc (item_named sp.target.name m.items) ≡ Some target → (length sp.ends == length target.config.ends) ≡ true → unknown_ends made.names sp.ends ≡ [] → AreGiven (behind_ends context made) env (map arg_pair sp.arguments) (map arg_denotation sp.arguments)
         → (right_spawn context made sp target (cyclic sp target) (seen made sp target)).faults ≡ [] → Listed m top s (right_spawn context made sp target (cyclic sp target) (seen made sp target)).reached → SpawnThere made env sp
@@ -168,6 +171,8 @@ module _ (m : Module) (top : Option (List ℕ)) (s : IsAccepted m top) (procs : 
         let listed = all_in test declared.reached (reached_by (is_refused (cyclic sp target) n) target.name.name n.values) r in
         let named = proc_named m sp.target.name target is in
         let k = parametric_args_there sp.target.name target is named (gs made sp) g.values g.each g.mean c.1 (ap (λ (j : JudgedThere). j.faults) (sym there) ∙ d.1) (ap (λ (j : JudgedThere). list_all test j.reached) (sym there) ∙ listed.0) no_wrong in
+        let alike = own_ends_alike m s.plain target named (target_ends target named) (procs sp.target.name target is) in
+        let ways = ap (λ (b : Before). (known.signature_in target.name.name b.values).arguments) k.shown ∙ alike k.parametric_args in
         let i : Instance = record { name = target.name.name; parametric_args = k.parametric_args } in
         let one = and_true (test i) true ((λ t. list_all test (reached_by (has_broken (sym c.0 t) || sym no_wrong t) target.name.name (sym k.is t))) ∙ listed.1) in
         record {
@@ -179,7 +184,7 @@ module _ (m : Module) (top : Option (List ℕ)) (s : IsAccepted m top) (procs : 
           among = one.0;
           many = many;
           ends = ends;
-          handed = (λ t. if sym no_wrong t then [] else handed_faults known target.name.name (sym k.shown t) made target.config.ends sp.ends) ∙ a.1;
+          handed = (λ t. if sym no_wrong t then [] else handed_faults made (sym ways t) target.config.ends sp.ends) ∙ a.1;
         }
 
     pub spawn_there : (made : Made) (sp : Spawn) (bound : List (List ℕ)) → Within m (most m top s) (config_statement_mentions (config_statement.Spawn sp) bound) → (spawn_found context made sp).faults ≡ [] → Listed m top s (spawn_found context made sp).reached

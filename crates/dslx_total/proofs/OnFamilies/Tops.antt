@@ -11,8 +11,7 @@ use Rattle.dslx_meaning.specs.Network.{as_proc, top_parametric_args, top_proc}
 use Rattle.dslx_meaning.specs.Items.{item_named}
 use Rattle.dslx_meaning.specs.declared.ty.DslxType.{DslxType}
 use Rattle.dslx_meaning.specs.declared.value.DslxValue.{DslxValue}
-use Rattle.dslx_meaning.specs.Rules.CallRules.{Before, JudgedThere, Unknown, and_parametric, declared_type, default_there, default_value, is_wrong_parametric, typing_there, known_before, parametric_args_seen, of_type, resolved_value, without_default}
-use Rattle.dslx_meaning.specs.Rules.ConstantRules.{is_empty}
+use Rattle.dslx_meaning.specs.Rules.CallRules.{Before, JudgedThere, Unknown, and_parametric, parametric_type, default_there, default_value, is_wrong_parametric, typing_there, known_before, parametric_args_seen, of_type, resolved_value, without_default}
 use Rattle.dslx_meaning.specs.Rules.TypeEnvs.{Instance, GlobalEnv, breaks}
 use Rattle.dslx_meaning.specs.Rules.PatternRules.{is_there}
 use Rattle.dslx_meaning.specs.Rules.ModuleRules.{is_reached, items_found, lacks_default, outside_instances, top_faults, top_found}
@@ -32,23 +31,23 @@ use Rattle.dslx_total.proofs.OnFamilies.Spawns.{parametric_args_there, proc_name
 -- no default is a wrong number
 default_right : (known : GlobalEnv) (owner : List ℕ) (before : Before) (t : Option DslxType) (o : Option Expr) → not (is_there o) ≡ false → is_wrong_parametric (default_value known owner before t o).value ≡ false
 default_right known owner before t None e = absurd (true≢false e)
-default_right known owner before t (Some x) e = by_unknown (is_empty before.unknown)
+default_right known owner before t (Some x) e = by_known before.are_known
   where
     by_value : (v : Option DslxValue) → is_wrong_parametric (resolved_value v) ≡ false
     by_value None = refl
     by_value (Some v) = refl
 
-    by_unknown : (b : Bool) → is_wrong_parametric (if b then default_there known owner before.values t x else without_default Unknown).value ≡ false
-    by_unknown true = by_value (of_type t (known.default_in owner before.values x).value)
-    by_unknown false = refl
+    by_known : (b : Bool) → is_wrong_parametric (if b then default_there known owner before.values t x else without_default Unknown).value ≡ false
+    by_known true = by_value (of_type t (known.default_in owner before.values).value)
+    by_known false = refl
 
 none_wrong : (known : GlobalEnv) (owner : List ℕ) (before : Before) (ps : List Parametric) → list_any lacks_default ps ≡ false → (parametric_args_seen known owner [] [] before ps []).is_wrong ≡ false
 none_wrong known owner before [] e = refl
 none_wrong known owner before (p ∷ ps) e =
     let q = or_false (lacks_default p) (list_any lacks_default ps) e in
-    let t = declared_type known owner before p.ty in
+    let t = parametric_type known owner before in
     let v = (default_value known owner before t p.default).value in
-    λ i. default_right known owner before t p.default q.0 i || none_wrong known owner (and_parametric before p v) ps q.1 i
+    λ i. default_right known owner before t p.default q.0 i || none_wrong known owner (and_parametric before v) ps q.1 i
 
 -- the instance of the top
 abbrev top_instance : Proc → Option (List DslxValue) → List Instance

@@ -18,9 +18,11 @@ use Rattle.dslx_meaning.specs.Callees.{is_own_name}
 use Rattle.dslx_meaning.specs.Environment.{Env, Given}
 use Rattle.dslx_meaning.specs.Lists.{and_then, beside, index_in, is_in}
 use Rattle.dslx_meaning.specs.Network.{Held, channel_held, channels_of_ends, handed_over, made_chan, plain_or_unit}
-use Rattle.dslx_meaning.specs.Types.{is_unit, plain_type, same_type}
+use Rattle.dslx_meaning.specs.Types.{plain_type, same_type}
 use Rattle.dslx_meaning.specs.declared.ty.DslxType.{DslxType}
-use Rattle.dslx_meaning.specs.Rules.CallRules.{channel_end_in, declared_type, known_before, same_direction}
+use Rattle.dslx_meaning.specs.Rules.CallRules.{channel_end_in, same_direction}
+use Rattle.dslx_meaning.specs.Rules.ModuleRules.{declared_type}
+use Rattle.dslx_meaning.specs.Rules.TypeRules.{unless_unit}
 use Rattle.dslx_meaning.specs.Rules.NameRules.{local_name}
 use Rattle.dslx_meaning.specs.Rules.ItemRules.{item_type_env, typing_of_inner}
 use Rattle.dslx_meaning.specs.Rules.ProcRules.{Made, behind_ends, channel_end_of, channel_type, end_names, ends_found, handed_faults, is_members, made_with, misfits, unknown_ends}
@@ -31,7 +33,6 @@ use Rattle.dslx_core.proofs.Lemmas.Typing.Typed.{none_some, not_false, one_of_te
 use Rattle.dslx_core.specs.Typing.Typed.Declared.{IsDeclared}
 use Rattle.dslx_core.specs.Typing.Typed.WellTyped.{IsWellTypedEnv}
 use Rattle.dslx_total.specs.Expressions.Beside.{NamesHaveWidths}
-use Rattle.dslx_total.proofs.OnFamilies.Parametrics.{EachEndAlike}
 use Rattle.dslx_total.proofs.OnNets.Full.{NamesAreFull}
 use Rattle.dslx_total.proofs.OnNets.Words.{IsWordType, WordIs, word_is}
 
@@ -242,21 +243,21 @@ module _ (known : GlobalEnv) (chans : List Chan) (made : Made) (before rest : Li
       handed_stands known chans (channel_held i.name (before ++ rest)) o.0 e w t is typed declared (ap (misfits e.direction w) (sym o.1) ∙ fits) (old.stands i.name o.0 o.1 rest)
 
   -- to a spawned proc
-  pub given_ends_stand : (env : Env) (owner : List ℕ) (so_far : List Given) (es : List End) (is : List Ident) → length is ≡ length es → EachHasWord (item_type_env known owner so_far) env es → EachEndAlike known owner es
-      → unknown_ends made.names is ≡ [] → handed_faults known owner (known_before so_far) made es is ≡ []
+  pub given_ends_stand : (env : Env) (owner : List ℕ) (so_far : List Given) (es : List End) (is : List Ident) → length is ≡ length es → EachHasWord (item_type_env known owner so_far) env es
+      → unknown_ends made.names is ≡ [] → handed_faults made (map (λ (e : End). declared_type (item_type_env known owner so_far) e.word) es) es is ≡ []
       → EndsStand known chans (end_names es) (map (channel_end_of (item_type_env known owner so_far)) es) (handed_over es (channels_of_ends (before ++ rest) is))
-  given_ends_stand env owner so_far [] is many words alike f g = none_stand known chans
-  given_ends_stand env owner so_far (e ∷ es) [] many words alike f g = absurd (omega (arith, many))
-  given_ends_stand env owner so_far (e ∷ es) (i ∷ is) many words alike f g =
+  given_ends_stand env owner so_far [] is many words f g = none_stand known chans
+  given_ends_stand env owner so_far (e ∷ es) [] many words f g = absurd (omega (arith, many))
+  given_ends_stand env owner so_far (e ∷ es) (i ∷ is) many words f g =
       let context = item_type_env known owner so_far in
       let w = words.0 in
       let a = none_in (breaks_if (not (is_in i.name made.names)) 1 i.span) (unknown_ends made.names is) f in
-      let own = declared_type known owner (known_before so_far) e.word in
-      let b = none_in (breaks_if (misfits e.direction own (channel_end_in i.name made.channel_ends)) 9 i.span) (handed_faults known owner (known_before so_far) made es is) g in
-      let declared : own ≡ Some w.word = ap (λ o. and_then o (λ t. if is_unit t then None else Some t)) (alike.0 so_far ∙ w.typed) ∙ ap (λ b. if b then None else Some w.word) w.whole in
+      let own = declared_type context e.word in
+      let b = none_in (breaks_if (misfits e.direction own (channel_end_in i.name made.channel_ends)) 9 i.span) (handed_faults made (map (λ (e : End). declared_type context e.word) es) es is) g in
+      let declared : own ≡ Some w.word = ap unless_unit w.typed ∙ ap (λ b. if b then None else Some w.word) w.whole in
       let st = given_stands i (channel_end_of context e) own w.word (passed (is_in i.name made.names) 1 i.span a.0) declared w.typed w.declared (not_broken (misfits e.direction own (channel_end_in i.name made.channel_ends)) 9 i.span b.0) in
       first_stands known chans (end_names es) (map (channel_end_of context) es) (handed_over es (channels_of_ends (before ++ rest) is)) (channel_end_of context e) (channel_held i.name (before ++ rest)) st
-      (given_ends_stand env owner so_far es is (omega (arith, many)) words.1 alike.1 a.1 b.1)
+      (given_ends_stand env owner so_far es is (omega (arith, many)) words.1 a.1 b.1)
 
   -- to the members
   pub members_stand : (context : TypeEnv) (env : Env) → context.known ≡ known → (es : List End) (is : List Ident) → EachHasWord context env es → unknown_ends made.names is ≡ [] → is_members context es is made ≡ true

@@ -30,7 +30,7 @@ use Rattle.dslx_meaning.specs.declared.ty.DslxType.TheVariants as rolls
 use Rattle.dslx_meaning.specs.declared.ty.DslxType.TheViews as views
 use Rattle.dslx_meaning.specs.Rules.ConstantRules.{constant_or_untyped, count_faults, count_number, count_of, is_empty}
 use Rattle.dslx_meaning.specs.Rules.ItemRules.{base_if_bits, enum_of_base, fields_found, fields_types, has_equal_values, item_type_env, member_values, members_found, typing_of_inner, typing_of_type}
-use Rattle.dslx_meaning.specs.Rules.Mentions.{AsType, is_cyclic, is_of_use}
+use Rattle.dslx_meaning.specs.Rules.Mentions.{AsType, is_of_use}
 use Rattle.dslx_meaning.specs.Rules.ModuleRules.{globals_within, type_known}
 use Rattle.dslx_meaning.specs.Rules.NameRules.{listed_name}
 use Rattle.dslx_meaning.specs.Rules.NodeRules.{type_pair}
@@ -105,7 +105,7 @@ named_full span name test context names t e u = by_test (test context) e
   where
     by_test : (b : Bool) → (named_type span context name b).ty ≡ Some t → 1 ≤ flat_bits t
     by_test false q = none_some t q
-    by_test true q = names name t (settled_type (context.known.items.type_named name) (breaks_if (is_cyclic context.known.whole context.owner name) 3 span) t q).1 u
+    by_test true q = names name t (settled_type (context.known.items.type_named name) (breaks_if (context.known.is_cyclic context.owner name) 3 span) t q).1 u
 
 abbrev EachIsFull : List TypePair → Type 0
 EachIsFull [] = Unit {0}
@@ -179,7 +179,7 @@ named_within span name test context f t e = by_test (test context) f e
   where
     by_test : (b : Bool) → (named_type span context name b).faults ≡ [] → (named_type span context name b).ty ≡ Some t → (at : ℕ) × (passes_widths at (leaf_widths t) ≡ [])
     by_test false g q = none_some t q
-    by_test true g q = settled_within span (context.known.items.type_named name) (breaks_if (is_cyclic context.known.whole context.owner name) 3 span) [] (Some 0) g t q
+    by_test true g q = settled_within span (context.known.items.type_named name) (breaks_if (context.known.is_cyclic context.owner name) 3 span) [] (Some 0) g t q
 
 counted_within : (span : Span) (own : TypeEnv → Option DslxType) (faults : TypeEnv → List Fault) (e : ExprPair) → IsWithin (λ context. counted_type span (own context) (faults context) (count_of context e))
 counted_within span own faults e context f t q =

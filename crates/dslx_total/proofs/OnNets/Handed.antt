@@ -13,10 +13,11 @@ use Rattle.dslx_tree.specs.declared.process.End.{End}
 use Rattle.dslx_meaning.specs.Lists.{and_then, beside, index_in, is_in}
 use Rattle.dslx_meaning.specs.Network.{Held, channel_held, channels_of_ends, handed_over}
 use Rattle.dslx_meaning.specs.declared.ty.DslxType.{DslxType}
-use Rattle.dslx_meaning.specs.Rules.CallRules.{Before, channel_end_in, declared_type}
+use Rattle.dslx_meaning.specs.Rules.CallRules.{channel_end_in}
+use Rattle.dslx_meaning.specs.Rules.ModuleRules.{declared_type}
 use Rattle.dslx_meaning.specs.Rules.ItemRules.{typing_of_inner}
 use Rattle.dslx_meaning.specs.Rules.ProcRules.{Made, channel_end_of, end_names, handed_faults, ident_names, is_members, misfits, times_in, unknown_ends, used_ends}
-use Rattle.dslx_meaning.specs.Rules.TypeEnvs.{ChannelEnd, GlobalEnv, TypeEnv, breaks_if}
+use Rattle.dslx_meaning.specs.Rules.TypeEnvs.{ChannelEnd, TypeEnv, breaks_if}
 use Rattle.dslx_core.proofs.Lemmas.Typing.Laws.{and_true}
 use Rattle.dslx_core.proofs.Lemmas.Typing.Sound.{none_in, not_broken, passed}
 use Rattle.dslx_core.proofs.Lemmas.Typing.Typed.{none_some, same_some}
@@ -69,18 +70,19 @@ way_fits Out Out w u name e = refl
 way_fits In Out w u name e = absurd (true≢false e)
 way_fits Out In w u name e = absurd (true≢false e)
 
-pub handed_go : (known : GlobalEnv) (owner : List ℕ) (bound : Before) (made : Made) (es : List End) (is : List Ident) → length is ≡ length es → unknown_ends made.names is ≡ [] → handed_faults known owner bound made es is ≡ [] → EndsGo made es is
-handed_go known owner bound made [] [] many f g = tt
-handed_go known owner bound made [] (i ∷ is) many f g = absurd (omega (arith, many))
-handed_go known owner bound made (e ∷ es) [] many f g = absurd (omega (arith, many))
-handed_go known owner bound made (e ∷ es) (i ∷ is) many f g =
+pub handed_go : (context : TypeEnv) (made : Made) (es : List End) (is : List Ident) → length is ≡ length es → unknown_ends made.names is ≡ []
+    → handed_faults made (map (λ (e : End). declared_type context e.word) es) es is ≡ [] → EndsGo made es is
+handed_go context made [] [] many f g = tt
+handed_go context made [] (i ∷ is) many f g = absurd (omega (arith, many))
+handed_go context made (e ∷ es) [] many f g = absurd (omega (arith, many))
+handed_go context made (e ∷ es) (i ∷ is) many f g =
     let a = none_in (breaks_if (not (is_in i.name made.names)) 1 i.span) (unknown_ends made.names is) f in
-    let own = declared_type known owner bound e.word in
-    let b = none_in (breaks_if (misfits e.direction own (channel_end_in i.name made.channel_ends)) 9 i.span) (handed_faults known owner bound made es is) g in
+    let own = declared_type context e.word in
+    let b = none_in (breaks_if (misfits e.direction own (channel_end_in i.name made.channel_ends)) 9 i.span) (handed_faults made (map (λ (e : End). declared_type context e.word) es) es is) g in
     let fits = not_broken (misfits e.direction own (channel_end_in i.name made.channel_ends)) 9 i.span b.0 in (
       passed (is_in i.name made.names) 1 i.span a.0,
       λ o q. way_fits e.direction o.direction own o.word o.name (ap (misfits e.direction own) (sym q) ∙ fits),
-      handed_go known owner bound made es is (omega (arith, many)) a.1 b.1,
+      handed_go context made es is (omega (arith, many)) a.1 b.1,
     )
 
 pub members_go : (context : TypeEnv) (made : Made) (es : List End) (is : List Ident) → unknown_ends made.names is ≡ [] → is_members context es is made ≡ true → EndsGo made es is

@@ -21,7 +21,7 @@ use Rattle.dslx_meaning.specs.Items.{parametric_args_bound}
 use Rattle.dslx_meaning.specs.Lists.{and_then, beside, is_in}
 use Rattle.dslx_meaning.specs.Network.{Elaborated, Elaboration, Family, Held, channels_of_ends, child_path, children, elaborate_within, handed_over, made_chans, made_ends, outer_ends, spawn_parametric_args, spawned, spawned_at}
 use Rattle.dslx_meaning.specs.declared.value.DslxValue.{DslxValue}
-use Rattle.dslx_meaning.specs.Rules.CallRules.{channel_end_in, known_before}
+use Rattle.dslx_meaning.specs.Rules.CallRules.{channel_end_in}
 use Rattle.dslx_meaning.specs.Rules.Mentions.{config_statement_mentions, parametric_names}
 use Rattle.dslx_meaning.specs.Rules.ModuleRules.{is_reached}
 use Rattle.dslx_meaning.specs.Rules.ItemRules.{Found}
@@ -219,7 +219,7 @@ module _ (m : Module) (top : Option (List ℕ)) (s : IsAccepted m top) (procs : 
         let there : IsThere m top s t.target t.parametric_args = record { checked = record { named = named; among = one_of_these (record { name = t.target.name.name; parametric_args = t.parametric_args }) (all m top s) t.among }; own = t.own } in
         let es = t.target.config.ends in
         let many = (Decides-eqb (length sp.ends) (length es)).0 t.many in
-        let go = handed_go known t.target.name.name (known_before (parametric_args_bound [] t.target.parametrics t.parametric_args)) made es sp.ends many t.ends t.handed in
+        let go = handed_go (proc_type_env known t.target t.parametric_args) made es sp.ends many t.ends t.handed in
         let inner = proc_type_env known t.target t.parametric_args in
         let given = handed_over es (channels_of_ends held sp.ends) in
         let back = handed_back made before rest held is scope inner es sp.ends go in

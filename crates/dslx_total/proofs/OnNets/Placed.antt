@@ -44,9 +44,8 @@ use Rattle.dslx_core.specs.Typing.TypingRelations.Closed.{ends_within}
 use Rattle.dslx_total.specs.Expressions.Beside.{NamesHaveWidths}
 use Rattle.dslx_total.specs.Families.Plain.{ProcsBindNoConstant}
 use Rattle.dslx_total.proofs.OnFamilies.Acts.{parts_well_typed}
-use Rattle.dslx_total.proofs.OnFamilies.Parametrics.{own_ends_alike}
 use Rattle.dslx_total.proofs.OnFamilies.Reached.{K, Listed, Passing, Within, all, all_sound, ends_none, most, proc_there, reaching}
-use Rattle.dslx_total.proofs.OnFamilies.Spawns.{proc_named, spawn_there, target_ends, well_behind}
+use Rattle.dslx_total.proofs.OnFamilies.Spawns.{proc_named, spawn_there, well_behind}
 use Rattle.dslx_total.proofs.OnFamilies.There.{IsThere, well}
 use Rattle.dslx_total.proofs.OnNets.Ends.{EachHasWord, EndStands, EndsStand, GoesThere, each_has_word, first_stands, given_ends_stand, made_stands, members_stand, none_stand}
 use Rattle.dslx_total.proofs.OnNets.Full.{NamesAreFull}
@@ -194,9 +193,8 @@ module _ (m : Module) (top : Option (List ℕ)) (s : IsAccepted m top) (procs : 
         let there : IsThere m top s t.target t.parametric_args = record { checked = record { named = named; among = one_of_these (record { name = t.target.name.name; parametric_args = t.parametric_args }) (all m top s) t.among }; own = t.own } in
         let so_far = parametric_args_bound [] t.target.parametrics t.parametric_args in
         let words = ends_have_words t.target t.parametric_args there in
-        let alike = own_ends_alike m s.plain t.target named (target_ends m top s procs complete typed t.target named) (procs sp.target.name t.target t.is) in
         let many = (Decides-eqb (length sp.ends) (length t.target.config.ends)).0 t.many in
-        let ends = given_ends_stand known chans made before rest h (item_env known so_far) t.target.name.name so_far t.target.config.ends sp.ends many words alike t.ends t.handed in
+        let ends = given_ends_stand known chans made before rest h (item_env known so_far) t.target.name.name so_far t.target.config.ends sp.ends many words t.ends t.handed in
         let given : EndsOf t.target t.parametric_args (handed_over t.target.config.ends (channels_of_ends held sp.ends)) =
         subst (λ hs. EndsOf t.target t.parametric_args (handed_over t.target.config.ends (channels_of_ends hs sp.ends))) (sym is) ends in
         let elaborated : spawned m known.items place own env held sp number ≡ place own t.target t.parametric_args (handed_over t.target.config.ends (channels_of_ends held sp.ends)) number =

@@ -1,16 +1,14 @@
 -- The scope where something is lowered, which matches the type environment where it is typed.
-use Rattle.std.specs.Prelude.{◌≡◌, ℕ, nat_lt, List, [], ◌∷◌, map, Bool, true, Some}
+use Rattle.std.specs.Prelude.{◌≡◌, ℕ, nat_lt, List, [], ◌∷◌, map, Bool, true, Option, Some}
 use Rattle.std.specs.List.{list_all}
-use Rattle.dslx_tree.specs.declared.item.Field.{Field}
 use Rattle.dslx_tree.specs.declared.item.Function.{Function}
-use Rattle.dslx_meaning.specs.Environment.{Given}
-use Rattle.dslx_meaning.specs.Items.{all_parametric_args, as_function, inferred_from, item_named, parametric_args_bound}
+use Rattle.dslx_meaning.specs.Items.{all_parametric_args, as_function, inferred_from, item_named}
 use Rattle.dslx_meaning.specs.Values.{type_of_value}
 use Rattle.dslx_meaning.specs.declared.ty.DslxType.{DslxType, fold-DslxType}
 use Rattle.dslx_meaning.specs.declared.ty.DslxType.TheOpen.{DslxType-F}
 use Rattle.dslx_meaning.specs.declared.value.DslxValue.{DslxValue}
-use Rattle.dslx_meaning.specs.Rules.CallRules.{declared_type, known_before, result_type}
 use Rattle.dslx_meaning.specs.Rules.TypeEnvs.{Instance, GlobalEnv, TypeEnv, Typed}
+use Rattle.dslx_core.specs.Typing.Typed.Complete.{signature_at}
 use Rattle.dslx_core.specs.Typing.Typed.Declared.{IsDeclared}
 use Rattle.dslx_core.specs.Typing.Typed.Numbers.{AllOwn}
 use Rattle.dslx_core.specs.Lowering.CoreScopes.{BoundSlot, CoreCallee, BodyEnv, CoreScope}
@@ -18,24 +16,24 @@ use Rattle.dslx_core.specs.Lowering.CoreScopes.{BoundSlot, CoreCallee, BodyEnv, 
 -- ---- calls
 
 -- types that are those which are declared for the arguments, where these are known
-abbrev pub AreDeclaredFor : GlobalEnv → List ℕ → List Given → List Field → List DslxType → Type 0
-AreDeclaredFor known owner parametric_args [] [] = Unit {0}
-AreDeclaredFor known owner parametric_args (f ∷ fs) (t ∷ ts) = ((u : DslxType) → declared_type known owner (known_before parametric_args) f.ty ≡ Some u → u ≡ t) × AreDeclaredFor known owner parametric_args fs ts
-AreDeclaredFor known owner parametric_args [] (t ∷ ts) = ⊥
-AreDeclaredFor known owner parametric_args (f ∷ fs) [] = ⊥
+abbrev pub AreDeclaredFor : List (Option DslxType) → List DslxType → Type 0
+AreDeclaredFor [] [] = Unit {0}
+AreDeclaredFor (o ∷ os) (t ∷ ts) = ((u : DslxType) → o ≡ Some u → u ≡ t) × AreDeclaredFor os ts
+AreDeclaredFor [] (t ∷ ts) = ⊥
+AreDeclaredFor (o ∷ os) [] = ⊥
 
 -- the callee of a call: a function, and the type that is declared for its result
 pub record HasCallee (known : GlobalEnv) (core : BodyEnv) (name : List ℕ) (f : Function) (given parametric_args : List DslxValue) (types : List DslxType) : Type 0 where
   pub callee : CoreCallee
   pub is : core.callee name given types ≡ Some callee
-  pub result : result_type known f.name.name (known_before (parametric_args_bound [] f.parametrics parametric_args)) f.result ≡ Some callee.result
+  pub result : (signature_at known f.name.name parametric_args).result ≡ Some callee.result
 
 -- calls of these instances, whose parametrics have values of their own types, with operands of the types of the arguments, have
 -- a callee
 abbrev pub CallsAreKnown : (Instance → Bool) → GlobalEnv → BodyEnv → Type 0
 CallsAreKnown here known core = (name : List ℕ) (f : Function) (given parametric_args : List DslxValue) (types : List DslxType)
     → as_function (item_named name known.whole.items) ≡ Some f → all_parametric_args known.items (inferred_from f.arguments types) [] f.parametrics given ≡ Some parametric_args
-    → AllOwn known.items.type_named parametric_args → here (record { name = f.name.name; parametric_args = parametric_args }) ≡ true → AreDeclaredFor known f.name.name (parametric_args_bound [] f.parametrics parametric_args) f.arguments types
+    → AllOwn known.items.type_named parametric_args → here (record { name = f.name.name; parametric_args = parametric_args }) ≡ true → AreDeclaredFor (signature_at known f.name.name parametric_args).arguments types
     → HasCallee known core name f given parametric_args types
 
 -- ---- types

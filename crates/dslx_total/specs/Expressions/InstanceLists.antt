@@ -2,15 +2,16 @@
 use Rattle.std.specs.Prelude.{◌≡◌, ◌&&◌, ◌++◌, ℕ, List, [], ◌∷◌, Bool, true, Some, length}
 use Rattle.std.specs.List.{list_any}
 use Rattle.std.specs.Str.{bytes_eq}
-use Rattle.dslx_tree.specs.declared.item.Field.{Field}
+use Rattle.dslx_tree.specs.declared.item.Definition.TheVariants as d
 use Rattle.dslx_tree.specs.declared.item.Function.{Function}
 use Rattle.dslx_meaning.specs.Environment.{Given}
 use Rattle.dslx_meaning.specs.Items.{as_function, item_named}
 use Rattle.dslx_meaning.specs.Lists.{pairwise}
-use Rattle.dslx_meaning.specs.Rules.CallRules.{known_before, result_type}
-use Rattle.dslx_meaning.specs.Rules.ItemRules.{function_seen, item_type_env, typing_of_type, result_typing}
+use Rattle.dslx_meaning.specs.declared.value.DslxValue.{DslxValue}
+use Rattle.dslx_meaning.specs.Rules.ItemRules.{function_seen, function_type_env}
+use Rattle.dslx_meaning.specs.Rules.ModuleRules.{signature_of}
 use Rattle.dslx_meaning.specs.Rules.TypeEnvs.{Instance, GlobalEnv}
-use Rattle.dslx_core.specs.Typing.Typed.Complete.{IsComplete}
+use Rattle.dslx_core.specs.Typing.Typed.Complete.{IsComplete, signature_at}
 use Rattle.dslx_core.specs.Typing.Typed.Numbers.{AllOwn}
 use Rattle.dslx_core.specs.Typing.Complete.HasValue.{AreTyped}
 use Rattle.dslx_meaning.specs.Rules.EqualValues.{equal_value}
@@ -22,21 +23,15 @@ use Rattle.dslx_total.specs.Expressions.ExprLowering.{IsClean}
 abbrev pub is_among : List Instantiated → Instance → Bool
 is_among is i = list_any (λ (j : Instantiated). bytes_eq i.name j.name && pairwise equal_value i.parametric_args j.parametric_args) is
 
--- each written type denotes the type that its typing has, in the text of this item
-abbrev pub AreAsTyped : GlobalEnv → List ℕ → List Field → Type 0
-AreAsTyped known owner [] = Unit {0}
-AreAsTyped known owner (f ∷ fs) = ((bound : List Given) → known.type_in owner bound [] f.ty ≡ (typing_of_type (item_type_env known owner bound) f.ty).ty) × AreAsTyped known owner fs
-
--- the types of a function's arguments and of its result denote what their typings have, in its text
-pub record TypesAreAsTyped (known : GlobalEnv) (f : Function) : Type 0 where
-  pub arguments : AreAsTyped known f.name.name f.arguments
-  pub result : (bound : List Given) → result_type known f.name.name (known_before bound) f.result ≡ (result_typing (item_type_env known f.name.name bound) f.result).ty
+-- the signatures of a function's instances are what its types are typed to in its text
+abbrev pub IsAsTyped : GlobalEnv → Function → Type 0
+IsAsTyped known f = (parametric_args : List DslxValue) → signature_at known f.name.name parametric_args ≡ signature_of (function_type_env known f parametric_args) (Some (d.Function f))
 
 -- what must hold of the global environment, for what is lowered
 pub record CanLower (known : GlobalEnv) : Type 0 where
   pub complete : IsComplete known
   pub typed : AreTyped known
-  pub types : (name : List ℕ) (f : Function) → as_function (item_named name known.whole.items) ≡ Some f → TypesAreAsTyped known f
+  pub types : (name : List ℕ) (f : Function) → as_function (item_named name known.whole.items) ≡ Some f → IsAsTyped known f
   pub widths : NamesHaveWidths known
 
 -- instances that stand in a list, where they are of functions, and their parametrics have values of their own types

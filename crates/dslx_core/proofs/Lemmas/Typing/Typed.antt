@@ -20,4 +20,4 @@ pub use Rattle.dslx_core.proofs.OnTyping.OnTyped.OfStructs.{struct_gives}
 pub use Rattle.dslx_core.proofs.OnTyping.OnTyped.OfMatches.{match_gives}
 pub use Rattle.dslx_core.proofs.OnTyping.OnTyped.OfWritten.{bits_mean, wide_means, name_means, tuple_means, array_means}
 pub use Rattle.dslx_core.proofs.OnTyping.OnTyped.OfFunctions.{turn_gives, for_gives, function_gives}
-pub use Rattle.dslx_core.proofs.OnTyping.OnTyped.OfParametricArgs.{parametric_args_found, inferred_alike, declared_is, own_value, own_more, own_bound}
+pub use Rattle.dslx_core.proofs.OnTyping.OnTyped.OfParametricArgs.{parametric_args_found, inferred_alike, not_unit_is, parametric_is, own_value, own_more, own_bound}

@@ -4,8 +4,6 @@ use mathlib.Core.Bool.{true≢false}
 use Rattle.std.specs.Prelude.{unwrap_or}
 use Rattle.xb_value.proofs.Lemmas.Types.{EachHas}
 use Rattle.dslx_tree.specs.declared.item.Parametric.{Parametric}
-use Rattle.dslx_meaning.specs.Environment.{Given}
-use Rattle.dslx_meaning.specs.Items.{with_number}
 use Rattle.dslx_meaning.specs.Types.{unit_type}
 use Rattle.dslx_meaning.specs.declared.ty.DslxType.{DslxType, out-DslxType}
 use Rattle.dslx_meaning.specs.declared.ty.DslxType as ty
@@ -60,8 +58,8 @@ pub gives_still : (types more : Declarations) → DeclareMore types more → (t 
 gives_still types more stay t o g = record { value = g.value; is = g.is; of = g.of; declared = declared_stays types more stay t g.declared }
 
 -- values of the types of their parameters are of their own
-pub own_parametric_args : (known : GlobalEnv) (owner : List ℕ) (so_far : List Given) (ps : List Parametric) (vs : List DslxValue) → FitParametricArgs known owner so_far ps vs → AllOwn known.items.type_named vs
-own_parametric_args known owner so_far [] [] h = tt
-own_parametric_args known owner so_far [] (v ∷ vs) h = absurd h
-own_parametric_args known owner so_far (p ∷ ps) [] h = absurd h
-own_parametric_args known owner so_far (p ∷ ps) (v ∷ vs) h = (own_value known.items.type_named h.0.0 (Some v) v refl h.0.2, own_parametric_args known owner (with_number so_far p v) ps vs h.1)
+pub own_parametric_args : (known : GlobalEnv) (owner : List ℕ) (before : List (Option DslxValue)) (ps : List Parametric) (vs : List DslxValue) → FitParametricArgs known owner before ps vs → AllOwn known.items.type_named vs
+own_parametric_args known owner before [] [] h = tt
+own_parametric_args known owner before [] (v ∷ vs) h = absurd h
+own_parametric_args known owner before (p ∷ ps) [] h = absurd h
+own_parametric_args known owner before (p ∷ ps) (v ∷ vs) h = (own_value known.items.type_named h.0.0 (Some v) v refl h.0.2, own_parametric_args known owner (Some v ∷ before) ps vs h.1)

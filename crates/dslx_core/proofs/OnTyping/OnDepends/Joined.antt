@@ -18,7 +18,7 @@ use Rattle.dslx_meaning.specs.Meaning.{fitted}
 use Rattle.dslx_meaning.specs.declared.ty.DslxType.{DslxType}
 use Rattle.dslx_meaning.specs.declared.ty.DslxType as ty
 use Rattle.dslx_meaning.specs.declared.value.DslxValue.{DslxValue}
-use Rattle.dslx_meaning.specs.Rules.AggregateRules.{field_typing, field_part_typing, field_type, index_typing, number_typing, struct_typing, tuple_element_typing, wanted_faults}
+use Rattle.dslx_meaning.specs.Rules.AggregateRules.{field_typing, field_part_typing, field_type, index_typing, number_typing, struct_typing, wanted_faults}
 use Rattle.dslx_meaning.specs.Rules.CallRules.{call_typing}
 use Rattle.dslx_meaning.specs.Rules.ConstantRules.{ConstantSeen, constant_of}
 use Rattle.dslx_meaning.specs.Rules.ControlRules.{expr_statement_typing, behind, if_typing, last_typing, loop_with, span_of_block, statements_typing}
@@ -34,7 +34,7 @@ use Rattle.dslx_core.proofs.OnTyping.OnDepends.Links.{Claims, claimed, typing, e
 use Rattle.dslx_core.proofs.OnTyping.OnDepends.OfCalls.{EachGivenSame, IfCalled, call_same}
 use Rattle.dslx_core.proofs.OnTyping.OnDepends.OfControl.{ArmSame, EachArmSame, EachPatternSame, PatternSame, arm_same, behind_in_globals, let_same, loop_behind, loop_same, match_same, name_pattern_same, parts_same}
 use Rattle.dslx_core.proofs.OnTyping.OnDepends.Scopes.{ExprAlike, TypingsAgree, behind_names, constant_alike, first_part, fits_alike, names_join, second_part, value_alike}
-use Rattle.dslx_core.proofs.OnTyping.OnDepends.Same.{EachFieldSame, EachSame, EachTypeSame, FieldSame, OthersSame, alone_same, array_same, bare_same, constant_same, count_same, frozen, inner_same, inner_types_same, member_same, name_same, named_same, struct_same, tuple_same, untyped_same}
+use Rattle.dslx_core.proofs.OnTyping.OnDepends.Same.{EachFieldSame, EachSame, EachTypeSame, FieldSame, OthersSame, alone_same, array_same, bare_same, constant_same, count_same, frozen, inner_same, inner_types_same, member_same, name_same, named_same, struct_same, tuple_same, untyped_same, element_same}
 
 -- ---- what is to hold of each sort
 
@@ -249,7 +249,7 @@ module _ (P : List ℕ → Bool) where
       let target = t.2.2 bound context other (two bound context other (e.1 bound ++ k.1 bound) (t.1 bound) h) in
       λ i. part_typing span context (frozen e.0 (whole i)) (frozen k.0 (start i)) (target i)
   node_alike (Node-F.Field e name) span bound on_top context other h = λ i. field_part_typing span context (frozen e.0 (e.2.2 bound false context other h i)) name
-  node_alike (Node-F.Element e place k) span bound on_top context other h = λ i. tuple_element_typing span context (frozen e.0 (e.2.2 bound false context other h i)) k
+  node_alike (Node-F.Element e place k) span bound on_top context other h = element_same span context other e.0 k (e.2.2 bound false context other h)
   node_alike (Node-F.Prefix o e) span bound on_top context other h = λ i. prefix_typing span context (frozen e.0 (e.2.2 bound false context other h i))
   node_alike (Node-F.Cast e t) span bound on_top context other h =
       let source = e.2.2 bound false context other (one bound context other (e.1 bound) (t.1 bound) h) in

@@ -11,87 +11,80 @@ use Rattle.dslx_meaning.specs.Callees.{AllOnes, CallKind, Calls, CountsLeading, 
 use Rattle.dslx_meaning.specs.Inference.{Inferred}
 use Rattle.dslx_meaning.specs.Items.{as_function, item_named}
 use Rattle.dslx_meaning.specs.Lists.{and_then, is_in}
-use Rattle.dslx_meaning.specs.Types.{bool_type, is_unit}
+use Rattle.dslx_meaning.specs.Types.{bool_type}
 use Rattle.dslx_meaning.specs.declared.ty.DslxType.{DslxType}
 use Rattle.dslx_meaning.specs.declared.ty.DslxType as ty
 use Rattle.dslx_meaning.specs.declared.value.DslxValue.{DslxValue}
 use Rattle.dslx_meaning.specs.Rules.AggregateRules.{wanted_faults, when_all}
 use Rattle.dslx_meaning.specs.Rules.CallRules as c
-use Rattle.dslx_meaning.specs.Rules.CallRules.{Before, ParametricArgument, NotGiven, ParametricArgsSeen, Resolved, Unknown, and_parametric, and_there, builtin_typing, call_typing, call_parametric_args, call_parts_faults, call_parts_reached, callee_size, channel_seen, declared_type, default_value, function_call, given_parametric_args, has_right_count, inferred_by, is_refused, typing_there, known_before, maybe_inferred, not_given, nothing_there, number_before, parametric_args_for, parametric_args_seen, of_type, operand_faults, reached_by, resolved_value, right_call, token_typing, type_there, without_default, without_parametric_args, wrong_call}
-use Rattle.dslx_meaning.specs.Rules.ConstantRules.{constant_of, is_empty}
+use Rattle.dslx_meaning.specs.Rules.CallRules.{Before, parametric_type, ParametricArgument, NotGiven, ParametricArgsSeen, Resolved, Unknown, and_parametric, and_there, builtin_typing, call_typing, call_parametric_args, call_parts_faults, call_parts_reached, callee_size, channel_seen, default_value, function_call, given_parametric_args, has_right_count, inferred_by, is_refused, typing_there, known_before, maybe_inferred, not_given, nothing_there, number_before, parametric_args_for, parametric_args_seen, of_type, operand_faults, reached_by, resolved_value, right_call, token_typing, type_there, without_default, without_parametric_args, wrong_call}
+use Rattle.dslx_meaning.specs.Rules.ConstantRules.{constant_of}
+use Rattle.dslx_meaning.specs.Rules.TypeRules.{unless_unit}
 use Rattle.dslx_meaning.specs.Rules.TypeEnvs.{ExprPair, Judgement, GlobalEnv, TypeEnv, all_alone, breaks_if, faults_of_all, name_of_expr, one_and, plus_size, reached_of_all, settled, size_of_all, span_of, types_of}
 use Rattle.dslx_meaning.specs.Rules.Typings.{ArgPair}
-use Rattle.dslx_meaning.specs.Rules.Mentions.{is_cyclic}
-use Rattle.dslx_core.specs.Typing.Depends.Alike.{EachArgumentAlike, EachParametricAlike, FunctionAlike, GlobalsAgree, ParametricAlike, in_globals}
+use Rattle.dslx_core.specs.Typing.Depends.Alike.{DeclaredAlike, FunctionAlike, GlobalsAgree, in_globals}
 use Rattle.dslx_core.proofs.OnTyping.OnDepends.Same.{EachSame, PartSame, all_alone_same, alone_same, frozen}
 
 -- ---- parametrics
 
-declared_same : (a b : GlobalEnv) (owner : List ℕ) (p : Parametric) → ParametricAlike a b owner p → (before : Before) → declared_type a owner before p.ty ≡ declared_type b owner before p.ty
-declared_same a b owner p h before = ap (λ o. and_then o (λ t. if is_unit t then None else Some t)) (h.ty before.values before.unknown)
+type_known_same : (a b : GlobalEnv) (owner : List ℕ) → DeclaredAlike a b owner → (before : Before) → parametric_type a owner before ≡ parametric_type b owner before
+type_known_same a b owner h before = λ i. unless_unit (h.parameter before.values i).ty
 
-default_same : (a b : GlobalEnv) (owner : List ℕ) (p : Parametric) → ParametricAlike a b owner p → (before : Before) (t : Option DslxType) (o : Option Expr) → p.default ≡ o → default_value a owner before t o ≡ default_value b owner before t o
-default_same a b owner p h before t None q = refl
-default_same a b owner p h before t (Some e) q = λ i.
-    if is_empty before.unknown
+default_same : (a b : GlobalEnv) (owner : List ℕ) → DeclaredAlike a b owner → (before : Before) (t : Option DslxType) (o : Option Expr) → default_value a owner before t o ≡ default_value b owner before t o
+default_same a b owner h before t None = refl
+default_same a b owner h before t (Some e) = λ i.
+    if before.are_known
     then record {
-      value = resolved_value (of_type t (h.default before.values e q i).value);
+      value = resolved_value (of_type t (h.default before.values i).value);
       typing = record {
-        faults = (h.default before.values e q i).judgement.faults ++ wanted_faults (out-Expr e).span t (h.default before.values e q i).judgement.ty;
-        reached = (h.default before.values e q i).judgement.reached;
+        faults = (h.default before.values i).judgement.faults ++ wanted_faults (out-Expr e).span t (h.default before.values i).judgement.ty;
+        reached = (h.default before.values i).judgement.reached;
       };
     }
     else without_default Unknown
 
-not_given_same : (a b : GlobalEnv) (owner : List ℕ) (p : Parametric) → ParametricAlike a b owner p → (before : Before) (t : Option DslxType) (maybe : Bool) (ns : List ℕ) → not_given a owner before p t maybe ns ≡ not_given b owner before p t maybe ns
-not_given_same a b owner p h before t true [] = refl
-not_given_same a b owner p h before t false [] = default_same a b owner p h before t p.default refl
-not_given_same a b owner p h before t maybe (n ∷ ns) = refl
+not_given_same : (a b : GlobalEnv) (owner : List ℕ) → DeclaredAlike a b owner → (before : Before) (p : Parametric) (t : Option DslxType) (maybe : Bool) (ns : List ℕ) → not_given a owner before p t maybe ns ≡ not_given b owner before p t maybe ns
+not_given_same a b owner h before p t true ns = refl
+not_given_same a b owner h before p t false [] = default_same a b owner h before t p.default
+not_given_same a b owner h before p t false (n ∷ ns) = refl
 
-type_same : (a b : GlobalEnv) (owner : List ℕ) (p : Parametric) → ParametricAlike a b owner p → (before : Before) → type_there a owner before p ≡ type_there b owner before p
-type_same a b owner p h before = λ i. if is_empty before.unknown then record { faults = (h.seen before.values i).faults; reached = (h.seen before.values i).reached } else nothing_there
+type_same : (a b : GlobalEnv) (owner : List ℕ) → DeclaredAlike a b owner → (before : Before) → type_there a owner before ≡ type_there b owner before
+type_same a b owner h before = λ i. if before.are_known then record { faults = (h.parameter before.values i).faults; reached = (h.parameter before.values i).reached } else nothing_there
 
 -- a parameter with its argument, by its type and those behind it
-abbrev with_given : GlobalEnv → List ℕ → List Inferred → List (List ℕ) → Before → Parametric → List Parametric → ParametricArgument → List ParametricArgument → Option DslxType → ParametricArgsSeen
-with_given known owner inferred maybe before p ps g gs t =
+abbrev with_given : GlobalEnv → List ℕ → List Inferred → List (List ℕ) → Before → List Parametric → ParametricArgument → List ParametricArgument → Option DslxType → ParametricArgsSeen
+with_given known owner inferred maybe before ps g gs t =
     let r = resolved_value (of_type t g.seen.value) in
-    number_before r (wanted_faults g.span t g.seen.judgement.ty) (type_there known owner before p) (parametric_args_seen known owner inferred maybe (and_parametric before p r) ps gs)
+    number_before r (wanted_faults g.span t g.seen.judgement.ty) (type_there known owner before) (parametric_args_seen known owner inferred maybe (and_parametric before r) ps gs)
 
-abbrev without_given : GlobalEnv → List ℕ → List Inferred → List (List ℕ) → Before → Parametric → List Parametric → NotGiven → ParametricArgsSeen
-without_given known owner inferred maybe before p ps r =
-    number_before r.value [] (and_there (type_there known owner before p) r.typing) (parametric_args_seen known owner inferred maybe (and_parametric before p r.value) ps [])
+abbrev without_given : GlobalEnv → List ℕ → List Inferred → List (List ℕ) → Before → List Parametric → NotGiven → ParametricArgsSeen
+without_given known owner inferred maybe before ps r =
+    number_before r.value [] (and_there (type_there known owner before) r.typing) (parametric_args_seen known owner inferred maybe (and_parametric before r.value) ps [])
 
 parametric_args_same : (a b : GlobalEnv) (owner : List ℕ) (inferred : List Inferred) (maybe : List (List ℕ)) (before : Before) (ps : List Parametric) (gs : List ParametricArgument)
-    → EachParametricAlike a b owner ps → parametric_args_seen a owner inferred maybe before ps gs ≡ parametric_args_seen b owner inferred maybe before ps gs
+    → DeclaredAlike a b owner → parametric_args_seen a owner inferred maybe before ps gs ≡ parametric_args_seen b owner inferred maybe before ps gs
 parametric_args_same a b owner inferred maybe before [] [] h = refl
 parametric_args_same a b owner inferred maybe before [] (g ∷ gs) h = refl
 parametric_args_same a b owner inferred maybe before (p ∷ ps) (g ∷ gs) h =
-    by_type (declared_type a owner before p.ty) (λ r. parametric_args_same a b owner inferred maybe (and_parametric before p r) ps gs h.1) ∙ ap (with_given b owner inferred maybe before p ps g gs) (declared_same a b owner p h.0 before)
+    by_type (parametric_type a owner before) (λ r. parametric_args_same a b owner inferred maybe (and_parametric before r) ps gs h) ∙ ap (with_given b owner inferred maybe before ps g gs) (type_known_same a b owner h before)
   where
-    by_type : (t : Option DslxType) → ((r : Resolved) → parametric_args_seen a owner inferred maybe (and_parametric before p r) ps gs ≡ parametric_args_seen b owner inferred maybe (and_parametric before p r) ps gs)
-        → with_given a owner inferred maybe before p ps g gs t ≡ with_given b owner inferred maybe before p ps g gs t
+    by_type : (t : Option DslxType) → ((r : Resolved) → parametric_args_seen a owner inferred maybe (and_parametric before r) ps gs ≡ parametric_args_seen b owner inferred maybe (and_parametric before r) ps gs)
+        → with_given a owner inferred maybe before ps g gs t ≡ with_given b owner inferred maybe before ps g gs t
     by_type t rest =
         let r = resolved_value (of_type t g.seen.value) in
-        λ i. number_before r (wanted_faults g.span t g.seen.judgement.ty) (type_same a b owner p h.0 before i) (rest r i)
+        λ i. number_before r (wanted_faults g.span t g.seen.judgement.ty) (type_same a b owner h before i) (rest r i)
 parametric_args_same a b owner inferred maybe before (p ∷ ps) [] h =
-    by_value (not_given a owner before p (declared_type a owner before p.ty) (is_in p.name.name maybe) (parametric_args_for p.name.name inferred))
-    (λ r. parametric_args_same a b owner inferred maybe (and_parametric before p r) ps [] h.1)
-    ∙ ap (without_given b owner inferred maybe before p ps)
-    (not_given_same a b owner p h.0 before (declared_type a owner before p.ty) (is_in p.name.name maybe) (parametric_args_for p.name.name inferred)
-    ∙ ap (λ t. not_given b owner before p t (is_in p.name.name maybe) (parametric_args_for p.name.name inferred)) (declared_same a b owner p h.0 before))
+    by_value (not_given a owner before p (parametric_type a owner before) (is_in p.name.name maybe) (parametric_args_for p.name.name inferred))
+    (λ r. parametric_args_same a b owner inferred maybe (and_parametric before r) ps [] h)
+    ∙ ap (without_given b owner inferred maybe before ps)
+    (not_given_same a b owner h before p (parametric_type a owner before) (is_in p.name.name maybe) (parametric_args_for p.name.name inferred)
+    ∙ ap (λ t. not_given b owner before p t (is_in p.name.name maybe) (parametric_args_for p.name.name inferred)) (type_known_same a b owner h before))
   where
-    by_value : (r : NotGiven) → ((r : Resolved) → parametric_args_seen a owner inferred maybe (and_parametric before p r) ps [] ≡ parametric_args_seen b owner inferred maybe (and_parametric before p r) ps [])
-        → without_given a owner inferred maybe before p ps r ≡ without_given b owner inferred maybe before p ps r
-    by_value r rest = λ i. number_before r.value [] (and_there (type_same a b owner p h.0 before i) r.typing) (rest r.value i)
+    by_value : (r : NotGiven) → ((r : Resolved) → parametric_args_seen a owner inferred maybe (and_parametric before r) ps [] ≡ parametric_args_seen b owner inferred maybe (and_parametric before r) ps [])
+        → without_given a owner inferred maybe before ps r ≡ without_given b owner inferred maybe before ps r
+    by_value r rest = λ i. number_before r.value [] (and_there (type_same a b owner h before i) r.typing) (rest r.value i)
 
 -- ---- calls of functions
-
-operands_same : (a b : GlobalEnv) (owner : List ℕ) (bound : Before) (fs : List Field) (es : List ExprPair) (js : List Judgement) → EachArgumentAlike a b owner fs → operand_faults a owner bound fs es js ≡ operand_faults b owner bound fs es js
-operands_same a b owner bound (f ∷ fs) (e ∷ es) (j ∷ js) h = λ i.
-    wanted_faults (span_of e) (and_then (h.0 bound.values bound.unknown i) (λ t. if is_unit t then None else Some t)) j.ty ++ operands_same a b owner bound fs es js h.1 i
-operands_same a b owner bound [] es js h = refl
-operands_same a b owner bound (f ∷ fs) [] js h = refl
-operands_same a b owner bound (f ∷ fs) (e ∷ es) [] h = refl
 
 size_same : (a b : GlobalEnv) (f : Function) → FunctionAlike a b f → (o : Option (List DslxValue)) → callee_size a f.name.name o ≡ callee_size b f.name.name o
 size_same a b f h None = refl
@@ -107,7 +100,7 @@ right_by span f given js cyclic parametric_args result operands size =
 right_same : (span : Span) (context : TypeEnv) (other : GlobalEnv) (f : Function) (given : List ParametricArgument) (es : List ExprPair) (js : List Judgement) (cyclic : List Fault) (parametric_args : ParametricArgsSeen) → FunctionAlike context.known other f
     → right_call span context f given es js cyclic parametric_args ≡ right_call span (in_globals context other) f given es js cyclic parametric_args
 right_same span context other f given es js cyclic parametric_args h = λ i.
-    right_by span f given js cyclic parametric_args (h.result parametric_args.bound i) (operands_same context.known other f.name.name parametric_args.bound f.arguments es js h.arguments i) (size_same context.known other f h parametric_args.values i)
+    right_by span f given js cyclic parametric_args (h.declared.signature parametric_args.bound.values i).result (operand_faults (h.declared.signature parametric_args.bound.values i).arguments es js) (size_same context.known other f h parametric_args.values i)
 
 abbrev cyclic_call : Bool → Span → List Fault
 cyclic_call cyclic span = breaks_if cyclic 3 span
@@ -125,10 +118,10 @@ function_same P span context other name given es js k h =
     seen known f = call_parametric_args known f given (types_of js)
 
     cyclic : GlobalEnv → List Fault
-    cyclic known = breaks_if (is_cyclic known.whole context.owner name.name) 3 span
+    cyclic known = breaks_if (known.is_cyclic context.owner name.name) 3 span
 
     cyclic_same : cyclic context.known ≡ cyclic other
-    cyclic_same = λ i. breaks_if (is_cyclic (k.whole i) context.owner name.name) 3 span
+    cyclic_same = ap (λ b. breaks_if b 3 span) (k.cyclic context.owner name.name)
 
     by_count : (f : Function) → FunctionAlike context.known other f → (b : Bool)
         → (if b then right_call span context f given es js (cyclic context.known) (seen context.known f) else wrong_call span given js (cyclic context.known))
@@ -136,7 +129,7 @@ function_same P span context other name given es js k h =
     by_count f q false = ap (wrong_call span given js) cyclic_same
     by_count f q true =
         right_same span context other f given es js (cyclic context.known) (seen context.known f) q
-        ∙ (λ i. right_call span (in_globals context other) f given es js (cyclic_same i) (parametric_args_same context.known other f.name.name (inferred_by f.arguments (types_of js)) (maybe_inferred f.arguments (types_of js)) (known_before []) f.parametrics given q.parametrics i))
+        ∙ (λ i. right_call span (in_globals context other) f given es js (cyclic_same i) (parametric_args_same context.known other f.name.name (inferred_by f.arguments (types_of js)) (maybe_inferred f.arguments (types_of js)) (known_before []) f.parametrics given q.declared i))
 
     by_function : (o : Option Function) → as_function (item_named name.name context.known.whole.items) ≡ o → function_call span context name given es js o ≡ function_call span (in_globals context other) name given es js o
     by_function None q = refl

@@ -19,7 +19,7 @@ use Rattle.dslx_meaning.specs.Rules.ConstantRules.{ConstantSeen, is_empty}
 use Rattle.dslx_meaning.specs.Rules.ControlRules.{ArmTyping, LoopSeen, all_known, all_words_match, alternatives_seen, arm_typing, arm_values, arms_faults, arms_reached, arms_size, block_alone, bound_type, differ, first_of_types, is_exhaustive, is_exhaustive_in, is_matched, last_is_sure, let_with, match_typing, member_matches, members_match, not_exhaustive, same_ends, some_binds, values_match, one_alternative, with_alternative}
 use Rattle.dslx_meaning.specs.Rules.TypeEnvs.{ExprPair, Judgement, GlobalEnv, TypeEnv, Typed, alone, breaks_if, constant_env, one_and, plus_size, settled, types_of, with_typed, unlimited}
 use Rattle.dslx_meaning.specs.Rules.Typings.{ArmSeen, BlockPair, PatternTyping, PatternPair, PatternSeen, StatementSeen}
-use Rattle.dslx_meaning.specs.Rules.Mentions.{is_cyclic, item_reaches}
+use Rattle.dslx_meaning.specs.Rules.Mentions.{item_reaches}
 use Rattle.dslx_meaning.specs.Rules.PatternRules.{both_patterns, first_part_type, is_there, name_pattern, one_value, other_part_types, parts_typing, pattern_alone}
 use Rattle.dslx_core.specs.Typing.Depends.Alike.{GlobalsAgree, in_globals}
 use Rattle.dslx_core.proofs.OnTyping.OnDepends.Same.{PartSame, alone_same}
@@ -51,7 +51,7 @@ name_pattern_same P span context other name k same may_fail t names locals = by_
   where
     by_kind : (b : Bool) → name_pattern span may_fail context t names locals name b ≡ name_pattern span may_fail (in_globals context other) t names locals name b
     by_kind false = λ i. name_pattern span may_fail (record context { known = record context.known { whole = k.whole i } }) t names locals name false
-    by_kind true = λ i. one_value span may_fail t names locals (unlimited (option_map type_of_value (same i)) (breaks_if (is_cyclic (k.whole i) context.owner name) 3 span) [] (Some 1)) (is_there (same i))
+    by_kind true = λ i. one_value span may_fail t names locals (unlimited (option_map type_of_value (same i)) (breaks_if (k.cyclic context.owner name i) 3 span) [] (Some 1)) (is_there (same i))
 
 -- ---- alternatives and arms
 

@@ -30,20 +30,21 @@ use Rattle.dslx_meaning.specs.declared.ty.DslxType as ty
 use Rattle.dslx_meaning.specs.declared.value.UntypedLiteral.{UntypedLiteral}
 use Rattle.dslx_meaning.specs.declared.value.DslxValue.{DslxValue}
 use Rattle.dslx_meaning.specs.Rules.AggregateRules.{range_faults, wanted_faults}
-use Rattle.dslx_meaning.specs.Rules.CallRules.{Before, result_type}
+use Rattle.dslx_meaning.specs.Rules.TypeRules.{unless_unit}
 use Rattle.dslx_meaning.specs.Rules.ConstantRules.{ConstantSeen, constant_of, is_empty}
 use Rattle.dslx_meaning.specs.Rules.ItemRules.{ConstantFound, Found, TypeFound, alias_seen, and_found, annotation_typing, arguments_found, arguments_typed, base_if_bits, body_typing, bound_with, constant_seen, default_found, enum_member_value, enum_of_base, enum_seen, fields_found, found_in, function_seen, has_equal_values, is_annotated, item_type_env, typing_of_inner, typing_of_type, member_constant, member_values, members_found, number_at, parametric_args_behind, only_faults, parametrics_found, result_typing, struct_seen}
 use Rattle.dslx_meaning.specs.Rules.TypeEnvs.{ExprPair, Instance, Judgement, GlobalEnv, TypeEnv, Typed, untyped_of, breaks_if, has_broken, span_of, type_limits, unless_broken}
 use Rattle.dslx_meaning.specs.Rules.Mentions.{Use, AsValue, AsEnum, Mention, definition_mentions, expr_if, field_names, fields_mentions, is_of_use, item_reaches, mentioned, mentioned_in_block, mentioned_in_type, mentions_of, names_mentioned, parametric_names, parametrics_mentions, reaches_within, type_if}
-use Rattle.dslx_meaning.specs.Rules.ModuleRules.{found_of_instance, globals_over, sound_instance, unbroken_instance}
+use Rattle.dslx_meaning.specs.Rules.ModuleRules.{declared_type, default_if, found_of_instance, globals_over, sound_instance, unbroken_instance}
 use Rattle.dslx_meaning.specs.Rules.NameRules.{listed_name, local_name}
 use Rattle.dslx_meaning.specs.Rules.NodeRules.{block_pair, expr_pair, type_pair}
 use Rattle.dslx_meaning.specs.Rules.OperatorRules.{is_bits, unless_type}
 use Rattle.dslx_core.specs.Typing.TypingRelations.Reached.{AllNamed, IsClosed, MentionsReach}
 use Rattle.dslx_core.proofs.Lemmas.Typing.TypingRelations.{block_of_text_reaches}
 use Rattle.dslx_core.proofs.Lemmas.Typing.Laws.{Agreeing, call_one}
-use Rattle.dslx_core.specs.Typing.Depends.Alike.{EachArgumentAlike, EachParametricAlike, GlobalsAgree, MentionsAlike, NamesAlike, SeesAlike, UseAlike}
+use Rattle.dslx_core.specs.Typing.Depends.Alike.{DeclaredAlike, GlobalsAgree, MentionsAlike, NamesAlike, SeesAlike, UseAlike}
 use Rattle.dslx_core.specs.Typing.Depends.Settled.{AreNoConstants}
+use Rattle.dslx_core.proofs.OnTyping.OnDepends.Parametrics.{declared_alike}
 use Rattle.dslx_core.proofs.OnTyping.OnDepends.Joined.{block_of_text_alike, expression_alike, written_type_alike}
 use Rattle.dslx_core.proofs.OnTyping.OnDepends.Scopes.{constant_alike, mentions_agree, names_join}
 use Rattle.dslx_core.proofs.OnTyping.OnDepends.Same.{all_alike, constant_same, inner_same, limited_by}
@@ -183,32 +184,60 @@ module _ (P : List ℕ → Bool) (m : Module) (a b : GlobalEnv) (closed : IsClos
 
   -- ---- functions
 
-  pub parametrics_over : (owner : List ℕ) → Own owner → (ps : List Parametric) (bound : List (List ℕ)) → NamesAlike a b bound → NamesAlike a b (parametric_names ps) → ExprDen (parametrics_mentions ps bound)
-      → EachParametricAlike (globals_over a) (globals_over b) owner ps
-  parametrics_over owner own [] bound n plain h = tt
-  parametrics_over owner own (p ∷ ps) bound n plain h =
-      let front = den_parts P m (mentioned_in_type p.ty bound ++ expr_if p.default bound) (parametrics_mentions ps (p.name.name ∷ bound)) h in
-      let both = den_parts P m (mentioned_in_type p.ty bound) (expr_if p.default bound) front.0 in (
-        record {
-          ty = λ so_far unknown. ap (λ (j : Judgement). j.ty) (type_at owner own bound n p.ty both.0 so_far unknown []);
-          seen = λ so_far. inner_at owner own bound n p.ty both.0 so_far [] [];
-          default = λ so_far e q.
-              let c = constant_at owner own bound n e (subst (λ o. ExprDen (expr_if o bound)) q both.1) so_far [] [] in
-              λ i. record { judgement = (c i).judgement; value = (c i).value };
-        },
-        parametrics_over owner own ps (p.name.name ∷ bound) (plain.0, n) plain.1 front.1,
-      )
+  -- a default, wherever it stands
+  default_known_at : (owner : List ℕ) → Own owner → (bound : List (List ℕ)) → NamesAlike a b bound → (o : Option Expr) → ExprDen (expr_if o bound) → (parametric_args : List Given) (unknown : List (List ℕ))
+      → default_if (type_env_at a owner parametric_args unknown []) o ≡ default_if (type_env_at b owner parametric_args unknown []) o
+  default_known_at owner own bound n None h parametric_args unknown = refl
+  default_known_at owner own bound n (Some e) h parametric_args unknown =
+      let c = constant_at owner own bound n e h parametric_args unknown [] in
+      λ i. record { judgement = (c i).judgement; value = (c i).value }
 
-  pub arguments_over : (owner : List ℕ) → Own owner → (fs : List Field) (bound : List (List ℕ)) → NamesAlike a b bound → ExprDen (fields_mentions fs bound) → EachArgumentAlike (globals_over a) (globals_over b) owner fs
-  arguments_over owner own [] bound n h = tt
-  arguments_over owner own (f ∷ fs) bound n h =
+  -- parametrics that are left behind these names, and what they mention
+  record LeftAlike (bound : List (List ℕ)) (left : List Parametric) : Type 0 where
+    plain : NamesAlike a b bound
+    others : NamesAlike a b (parametric_names left)
+    mentions : ExprDen (parametrics_mentions left bound)
+
+  left_next : (bound : List (List ℕ)) (p : Parametric) (ps : List Parametric) → LeftAlike bound (p ∷ ps) → LeftAlike (p.name.name ∷ bound) ps
+  left_next bound p ps h = record {
+    plain = (h.others.0, h.plain);
+    others = h.others.1;
+    mentions = (den_parts P m (mentioned_in_type p.ty bound ++ expr_if p.default bound) (parametrics_mentions ps (p.name.name ∷ bound)) h.mentions).1;
+  }
+
+  -- the first one's type and default
+  first_den : (bound : List (List ℕ)) (p : Parametric) (ps : List Parametric) → LeftAlike bound (p ∷ ps) → ExprDen (mentioned_in_type p.ty bound) × ExprDen (expr_if p.default bound)
+  first_den bound p ps h =
+      den_parts P m (mentioned_in_type p.ty bound) (expr_if p.default bound) (den_parts P m (mentioned_in_type p.ty bound ++ expr_if p.default bound) (parametrics_mentions ps (p.name.name ∷ bound)) h.mentions).0
+
+  -- the types of arguments
+  arguments_over : (owner : List ℕ) → Own owner → (fs : List Field) (bound : List (List ℕ)) → NamesAlike a b bound → ExprDen (fields_mentions fs bound) → (given : List Given) (unknown : List (List ℕ))
+      → map (λ (f : Field). declared_type (type_env_at a owner given unknown []) f.ty) fs ≡ map (λ (f : Field). declared_type (type_env_at b owner given unknown []) f.ty) fs
+  arguments_over owner own [] bound n h given unknown = refl
+  arguments_over owner own (f ∷ fs) bound n h given unknown =
       let both = den_parts P m (mentioned_in_type f.ty bound) (fields_mentions fs bound) h in
-      ((λ given unknown. ap (λ (j : Judgement). j.ty) (type_at owner own bound n f.ty both.0 given unknown [])), arguments_over owner own fs bound n both.1)
+      λ i. unless_unit (type_at owner own bound n f.ty both.0 given unknown [] i).ty ∷ arguments_over owner own fs bound n both.1 given unknown i
 
-  pub result_over : (owner : List ℕ) → Own owner → (o : Option TypeExpr) (bound : List (List ℕ)) → NamesAlike a b bound → ExprDen (type_if o bound) → (given : Before)
-      → result_type (globals_over a) owner given o ≡ result_type (globals_over b) owner given o
-  result_over owner own None bound n h given = refl
-  result_over owner own (Some t) bound n h given = ap (λ (j : Judgement). j.ty) (type_at owner own bound n t h given.values given.unknown [])
+  result_over : (owner : List ℕ) → Own owner → (o : Option TypeExpr) (bound : List (List ℕ)) → NamesAlike a b bound → ExprDen (type_if o bound) → (given : List Given) (unknown : List (List ℕ))
+      → result_typing (type_env_at a owner given unknown []) o ≡ result_typing (type_env_at b owner given unknown []) o
+  result_over owner own None bound n h given unknown = refl
+  result_over owner own (Some t) bound n h given unknown = type_at owner own bound n t h given unknown []
+
+  -- what a function declares: the types and the defaults of its parametrics, and its signature
+  pub declared_over : (f : Function) → item_named f.name.name m.items ≡ Some (d.Function f) → Own f.name.name → NamesAlike a b (parametric_names f.parametrics) → ExprDen (parametrics_mentions f.parametrics [])
+      → ExprDen (fields_mentions f.arguments (parametric_names f.parametrics)) → ExprDen (type_if f.result (parametric_names f.parametrics)) → DeclaredAlike (globals_over a) (globals_over b) f.name.name
+  declared_over f is own plain ps fs rs =
+      declared_alike a b owner (d.Function f) ((λ i. item_named owner (s.text i).items) ∙ is) ((λ i. item_named owner (sym s.known.whole i).items) ∙ (λ i. item_named owner (s.text i).items) ∙ is) LeftAlike left_next
+      (λ bound p qs h given unknown. inner_at owner own bound h.plain p.ty (first_den bound p qs h).0 given unknown [])
+      (λ bound p qs h given unknown. default_known_at owner own bound h.plain p.default (first_den bound p qs h).1 given unknown)
+      (λ given unknown.
+      let arguments = arguments_over owner own f.arguments (parametric_names f.parametrics) plain fs given unknown in
+      let result = result_over owner own f.result (parametric_names f.parametrics) plain rs given unknown in
+      λ i. record { arguments = arguments i; result = (result i).ty })
+      (record { plain = tt; others = plain; mentions = ps })
+    where
+      owner : List ℕ
+      owner = f.name.name
 
   default_at : (owner : List ℕ) → Own owner → (bound : List (List ℕ)) → NamesAlike a b bound → (o : Option Expr) → ExprDen (expr_if o bound) → (parametric_args : List Given) (t u : Option DslxType) → t ≡ u
       → default_found (item_type_env a owner parametric_args) t o ≡ default_found (item_type_env b owner parametric_args) u o

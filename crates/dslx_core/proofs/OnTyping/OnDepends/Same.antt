@@ -1,5 +1,5 @@
 -- Judgements by what is known in two ways, by those of their parts.
-use Rattle.std.proofs.Common.{◌≡◌, ◌&&◌, ◌||◌, ◌++◌, ℕ, Bool, true, false, not, if◌then◌else◌, List, [], ◌∷◌, map, length, Option, Some, None, refl, ap, ◌∙◌}
+use Rattle.std.proofs.Common.{◌≡◌, ◌&&◌, ◌||◌, ◌++◌, ℕ, Bool, true, false, not, if◌then◌else◌, List, [], ◌∷◌, map, length, Option, Some, None, refl, ap, ◌∙◌, zero, suc}
 use Rattle.std.specs.List.{list_all}
 use Rattle.std.specs.Option.{option_map}
 use Rattle.xb_span.specs.declared.fault.Fault.{Fault}
@@ -16,12 +16,13 @@ use Rattle.dslx_meaning.specs.declared.ty.DslxType.{DslxType}
 use Rattle.dslx_meaning.specs.declared.ty.DslxType as ty
 use Rattle.dslx_meaning.specs.declared.value.UntypedLiteral.{UntypedLiteral}
 use Rattle.dslx_meaning.specs.declared.value.DslxValue.{DslxValue}
-use Rattle.dslx_meaning.specs.Rules.AggregateRules.{array_faults, array_in, array_typing, element_alone, element_in, element_type, field_typing, first_type_of, has_twice, lacks_one, like_first, others_typing, pair_alone, range_faults, struct_if, struct_typing, tuple_typing, unknown_fields, wanted_faults, when_all, written_fields}
+use Rattle.dslx_meaning.specs.Rules.AggregateRules.{array_faults, array_in, array_typing, element_alone, element_in, element_type, field_typing, first_type_of, has_twice, lacks_one, like_first, others_typing, pair_alone, range_faults, struct_if, struct_typing, tuple_typing, unknown_fields, wanted_faults, when_all, written_fields, pair_or_alone, part_type, tuple_element_typing}
 use Rattle.dslx_meaning.specs.Rules.PatternRules.{is_there}
+use Rattle.dslx_meaning.specs.Rules.OperatorRules.{unless_type}
 use Rattle.dslx_meaning.specs.Rules.ConstantRules.{ConstantSeen, untyped_typing, constant_of, constant_or_untyped, count_number, count_of, count_with, is_empty, names_a_local, over_size, value_if_whole}
 use Rattle.dslx_meaning.specs.Rules.TypeEnvs.{ExprPair, Instance, Judgement, GlobalEnv, TypeEnv, all_alone, alone, untyped_of, breaks, breaks_if, constant_env, faults_of_all, has_broken, no_token, one_and, plus_size, reached_of_all, settled, size_if_typed, size_of_all, span_of, typed_in, types_of, unlimited}
 use Rattle.dslx_meaning.specs.Rules.Typings.{FieldSeen, TypePair}
-use Rattle.dslx_meaning.specs.Rules.Mentions.{AsType, is_cyclic, is_of_use}
+use Rattle.dslx_meaning.specs.Rules.Mentions.{AsType, is_of_use}
 use Rattle.dslx_meaning.specs.Rules.NameRules.{end_or_other, item_value, local_or_other, member_typing, member_of, name_typing, parametric_or_item, has_member}
 use Rattle.dslx_meaning.specs.Rules.TypeRules.{inner_type, inner_types, named_type}
 use Rattle.dslx_core.specs.Typing.TypingRelations.Reached.{AllNamed}
@@ -99,7 +100,7 @@ pub name_same : (P : List ℕ → Bool) (span : Span) (context : TypeEnv) (other
 name_same P span context other name k same = by_local (typed_in name context.locals)
   where
     by_item : (b : Bool) → item_value span context name b ≡ item_value span (in_globals context other) name b
-    by_item true = λ i. settled span (option_map type_of_value (same i)) (breaks_if (is_cyclic (k.whole i) context.owner name) 3 span) [] (Some 1)
+    by_item true = λ i. settled span (option_map type_of_value (same i)) (breaks_if (k.cyclic context.owner name i) 3 span) [] (Some 1)
     by_item false = refl
 
     by_unknown : (b : Bool) → (if b then settled span None [] [] (Some 1) else item_value span context name (context.known.items.is_constant name))
@@ -126,7 +127,7 @@ member_same P context other e a k h =
   where
     by_enum : (o : Option Enum) → as_enum (item_named e.name context.known.whole.items) ≡ o → member_of context e a o ≡ member_of (in_globals context other) e a o
     by_enum None q = refl
-    by_enum (Some declared) q = λ i. unlimited (and_then (h.members a.name i) (λ v. h.ty declared q i)) (breaks_if (is_cyclic (k.whole i) context.owner e.name) 3 e.span ++ breaks_if (not (has_member declared a.name)) 1 a.span) [] (Some 1)
+    by_enum (Some declared) q = λ i. unlimited (and_then (h.members a.name i) (λ v. h.ty declared q i)) (breaks_if (k.cyclic context.owner e.name i) 3 e.span ++ breaks_if (not (has_member declared a.name)) 1 a.span) [] (Some 1)
 
 pub named_same : (P : List ℕ → Bool) (span : Span) (context : TypeEnv) (other : GlobalEnv) (name : List ℕ) → GlobalsAgree P context.known other → context.known.items.type_named name ≡ other.items.type_named name
     → named_type span context name (is_of_use AsType (item_named name context.known.whole.items)) ≡ named_type span (in_globals context other) name (is_of_use AsType (item_named name other.whole.items))
@@ -135,7 +136,7 @@ named_same P span context other name k h =
   where
     by_use : (b : Bool) → named_type span context name b ≡ named_type span (in_globals context other) name b
     by_use false = refl
-    by_use true = λ i. settled span (h i) (breaks_if (is_cyclic (k.whole i) context.owner name) 3 span) [] (Some 0)
+    by_use true = λ i. settled span (h i) (breaks_if (k.cyclic context.owner name i) 3 span) [] (Some 0)
 
 -- ---- lists
 
@@ -189,9 +190,18 @@ pub tuple_same : (span : Span) (context : TypeEnv) (other : GlobalEnv) (es : Lis
 tuple_same span context other es h =
     ap (λ js. settled span (and_then (all_some (types_of js)) (λ ts. Some (ty.Tuple ts))) (faults_of_all js) (reached_of_all js) (one_and (size_of_all js))) (elements_alone_same context other es h)
 
--- a tuple's part, where a receive's pair may stand
-pub pair_same : (context : TypeEnv) (other : GlobalEnv) (e : ExprPair) → PartSame context other e → pair_alone context e ≡ pair_alone (in_globals context other) e
-pair_same context other e h = λ i. pair_alone context (frozen e (h i))
+-- a tuple's part, where a receive's pair may stand before 0 and 1
+pair_same : (k : ℕ) (context : TypeEnv) (other : GlobalEnv) (e : ExprPair) → PartSame context other e → pair_or_alone k context e ≡ pair_or_alone k (in_globals context other) e
+pair_same zero context other e h = λ i. pair_alone context (frozen e (h i))
+pair_same (suc zero) context other e h = λ i. pair_alone context (frozen e (h i))
+pair_same (suc (suc k)) context other e h = alone_same context other e h
+
+abbrev taken_by_number : Span → ℕ → Judgement → Judgement
+taken_by_number span k whole =
+    settled span (and_then whole.ty (λ t. part_type t k)) (whole.faults ++ unless_type (λ t. is_there (part_type t k)) 19 span whole.ty) whole.reached (one_and whole.size)
+
+pub element_same : (span : Span) (context : TypeEnv) (other : GlobalEnv) (e : ExprPair) (k : ℕ) → PartSame context other e → tuple_element_typing span context e k ≡ tuple_element_typing span (in_globals context other) e k
+element_same span context other e k h = ap (taken_by_number span k) (pair_same k context other e h)
 
 -- types
 abbrev pub TypeSame : TypeEnv → GlobalEnv → TypePair → Type 0
@@ -251,4 +261,4 @@ struct_same P span context other name fields others k same each rest =
     by_struct : (o : Option Struct) → struct_if span context name fields others o ≡ struct_if span (in_globals context other) name fields others o
     by_struct None = λ i. unknown_struct span name (fields_same context other None fields each i) (others_same context other None others rest i)
     by_struct (Some declared) = λ i.
-        struct_by span (is_cyclic (k.whole i) context.owner name.name) name fields (is_there others) (same i) declared (fields_same context other (same i) fields each i) (others_same context other (same i) others rest i)
+        struct_by span (k.cyclic context.owner name.name i) name fields (is_there others) (same i) declared (fields_same context other (same i) fields each i) (others_same context other (same i) others rest i)

@@ -19,11 +19,11 @@ use Rattle.dslx_meaning.specs.declared.ty.DslxType.{DslxType}
 use Rattle.dslx_meaning.specs.declared.value.DslxValue.{DslxValue}
 use Rattle.dslx_meaning.specs.Rules.ItemRules.{ConstantFound, FunctionSeen, TypeFound, constant_seen, enum_member_value, function_seen, struct_seen}
 use Rattle.dslx_meaning.specs.Rules.TypeEnvs.{Instance, GlobalEnv}
-use Rattle.dslx_meaning.specs.Rules.Mentions.{Use, AsValue, AsPattern, AsType, AsFunction, AsProc, AsEnum, AsStruct, Mention, definition_mentions, expr_if, field_names, fields_mentions, is_of_use, mentioned, mentioned_in_block, mentioned_in_type, mentions_of, names_mentioned, parametric_names, parametrics_mentions, type_if}
+use Rattle.dslx_meaning.specs.Rules.Mentions.{Use, AsValue, AsPattern, AsType, AsFunction, AsProc, AsEnum, AsStruct, Mention, definition_mentions, expr_if, field_names, fields_mentions, is_of_use, mentioned, mentioned_in_block, mentioned_in_type, mentions_of, names_mentioned, parametric_names, parametrics_mentions, type_if, is_cyclic}
 use Rattle.dslx_meaning.specs.Rules.ModuleRules.{found_of_instance, found_of_item, globals_over, globals_within, size_known, type_known}
 use Rattle.dslx_core.specs.Typing.TypingRelations.Closed.{ends_within}
 use Rattle.dslx_core.specs.Typing.TypingRelations.Reached.{IsClosed}
-use Rattle.dslx_core.proofs.Lemmas.Typing.TypingRelations.{closed, every_item, function_is, instances_reach, item_so_named, den_reach, whole_is}
+use Rattle.dslx_core.proofs.Lemmas.Typing.TypingRelations.{closed, every_item, function_is, instances_reach, item_so_named, den_reach, cyclic_is, whole_is}
 use Rattle.dslx_core.specs.Typing.Depends.Alike.{CalleeAlike, EnumAlike, FunctionAlike, GlobalsAgree, UseAlike}
 use Rattle.dslx_core.specs.Typing.Laws.Recursion.{HasNoCycle}
 use Rattle.dslx_core.specs.Typing.Depends.Settled.{BindsNoConstant}
@@ -160,9 +160,7 @@ module _ (P : List ℕ → Bool) (m : Module) (a b : GlobalEnv) (closed_in : IsC
       let h = of.function_parts P m a b closed_in s f (own_mentions name (d.Function f) q own) in
       let parametrics = of.plain_alike P m a b closed_in s (parametric_names f.parametrics) names.0 in
       record {
-        parametrics = of.parametrics_over P m a b closed_in s f.name.name owner f.parametrics [] tt parametrics h.parametrics;
-        arguments = of.arguments_over P m a b closed_in s f.name.name owner f.arguments (parametric_names f.parametrics) parametrics h.arguments;
-        result = of.result_over P m a b closed_in s f.name.name owner f.result (parametric_names f.parametrics) parametrics h.result;
+        declared = of.declared_over P m a b closed_in s f (named_again name (d.Function f) q) owner parametrics h.parametrics h.arguments h.result;
         size = λ parametric_args. at_item f.name.name (size_over parametric_args) (sized parametric_args);
       }
     where
@@ -209,6 +207,7 @@ module _ (P : List ℕ → Bool) (m : Module) (a b : GlobalEnv) (closed_in : IsC
   globals_over_alike Q in_q = record {
     whole = s.known.whole;
     kinds = λ name i. is_constant_item (item_named name (s.known.whole i).items);
+    cyclic = λ owner name i. is_cyclic (s.known.whole i) owner name;
     sound = λ k q. let r = in_q k.name q in of.sound_at P m a b closed_in s k r.0 (found_at k r.0 r.1);
     unbroken = λ k q. let r = in_q k.name q in of.unbroken_at P m a b closed_in s k r.0 (found_at k r.0 r.1);
   }
@@ -431,6 +430,7 @@ stage m plain zero a b p q = record {
   known = record {
     whole = whole_is m a ∙ sym (whole_is m b);
     kinds = λ name. kind a name ∙ sym (kind b name);
+    cyclic = λ owner name. cyclic_is m a owner name ∙ sym (cyclic_is m b owner name);
     sound = λ i e. absurd (true≢false (sym e));
     unbroken = λ i e. absurd (true≢false (sym e));
   };

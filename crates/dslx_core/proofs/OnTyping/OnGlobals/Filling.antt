@@ -6,7 +6,6 @@ use Rattle.std.specs.Str.{bytes_eq}
 use Rattle.std.proofs.lemmas.Nat.{pow_pos}
 use Rattle.std.proofs.lemmas.Slice.Eq.{bytes_eq-Decides}
 use Rattle.xb_bits.specs.Word.{word}
-use Rattle.dslx_tree.specs.declared.expr.Expr.{Expr}
 use Rattle.dslx_tree.specs.declared.item.Definition.{Definition}
 use Rattle.dslx_tree.specs.declared.item.Definition.TheVariants as d
 use Rattle.dslx_tree.specs.declared.item.Enum.{Enum}
@@ -15,29 +14,28 @@ use Rattle.dslx_tree.specs.declared.item.Function.{Function}
 use Rattle.dslx_tree.specs.declared.item.Parametric.{Parametric}
 use Rattle.dslx_tree.specs.declared.item.Struct.{Struct as StructItem}
 use Rattle.dslx_meaning.specs.Environment.{Given, Meanings}
-use Rattle.dslx_meaning.specs.Items.{as_enum, as_function, as_struct, is_constant_item, item_named, name_of_field, parametric_args_bound}
+use Rattle.dslx_meaning.specs.Items.{as_enum, as_function, as_struct, is_constant_item, item_named, name_of_field}
 use Rattle.dslx_meaning.specs.Lists.{and_then, index_in}
-use Rattle.dslx_meaning.specs.Types.{is_unit}
 use Rattle.dslx_meaning.specs.Values.{type_of_value}
 use Rattle.dslx_meaning.specs.declared.ty.DslxType.{DslxType, out-DslxType}
 use Rattle.dslx_meaning.specs.declared.ty.DslxType as ty
 use Rattle.dslx_meaning.specs.declared.ty.DslxType.TheOpen.{DslxType-F}
 use Rattle.dslx_meaning.specs.declared.ty.DslxType.TheViews as views
 use Rattle.dslx_meaning.specs.declared.value.DslxValue.{DslxValue}
-use Rattle.dslx_meaning.specs.Rules.CallRules.{declared_type, known_before}
-use Rattle.dslx_meaning.specs.Rules.TypeEnvs.{DefaultSeen, Judgement, GlobalEnv}
+use Rattle.dslx_meaning.specs.Rules.CallRules.{parametric_type, known_before}
+use Rattle.dslx_meaning.specs.Rules.TypeEnvs.{DefaultSeen, Judgement, GlobalEnv, Signature}
+use Rattle.dslx_meaning.specs.Rules.TypeRules.{unless_unit}
 use Rattle.dslx_meaning.specs.Rules.Mentions.{AsType, is_of_use}
 use Rattle.dslx_meaning.specs.Rules.NameRules.{has_member}
 use Rattle.dslx_core.specs.Typing.Typed.Complete.{EachArgumentDeclared, EachParametricKnown, IsComplete, IsFunctionKnown, IsStructKnown}
 use Rattle.dslx_core.specs.Typing.Typed.Declared.{AllDeclared, Declarations, IsDeclared}
 use Rattle.dslx_core.specs.Typing.Typed.Given.{GivesOf, OwnTypes}
 use Rattle.dslx_core.specs.Typing.Typed.Kinds.{is_of}
-use Rattle.dslx_core.specs.Typing.Typed.Numbers.{ParametricsMean}
+use Rattle.dslx_core.specs.Typing.Typed.Numbers.{ParametricsMean, values_behind}
 use Rattle.dslx_core.proofs.Lemmas.Typing.Typed.{bits_of_width, lies, none_some, one_type, same_some}
 use Rattle.dslx_core.proofs.Lemmas.Typing.TypingRelations.{function_is, item_so_named}
 use Rattle.dslx_core.specs.Typing.Complete.HasValue.{AreTyped}
-use Rattle.dslx_core.specs.Typing.GlobalEnv.Filled.{constant_filler, filled, filler_struct, filler_type, member_filler, refused, struct_filler, zero_bits}
-use Rattle.dslx_tree.specs.declared.type_expr.TypeExpr.{TypeExpr}
+use Rattle.dslx_core.specs.Typing.GlobalEnv.Filled.{constant_filler, filled, filler_struct, filler_type, member_filler, nothing_typed, refused, struct_filler, zero_bits}
 use Rattle.xb_span.specs.declared.fault.Fault.{Fault}
 use Rattle.dslx_core.specs.Typing.GlobalEnv.Passing.{PassingHaveValues}
 use Rattle.dslx_core.proofs.OnTyping.OnGlobals.Declaring.{bits_declared, named_struct}
@@ -193,53 +191,58 @@ module _ (w : ℕ) (P : List ℕ → Bool) (known : GlobalEnv) where
   no_fault : {X : Type 0} → refused.faults ≡ [] → X
   no_fault k = absurd (true≢false (ap some_faults k))
 
-  not_well_typed : {X : Type 0} (owner : List ℕ) → P owner ≡ false → (so_far : List Given) (p : Parametric) → (F.type_seen_in owner so_far p.ty).faults ≡ [] → X
-  not_well_typed owner p so_far q e = no_fault (sym (ap (λ (j : Judgement). j.faults) (other owner (known.type_seen_in owner so_far q.ty) refused p)) ∙ e)
+  not_well_typed : {X : Type 0} (owner : List ℕ) → P owner ≡ false → (before : List (Option DslxValue)) → (F.parameter_in owner before).faults ≡ [] → X
+  not_well_typed owner p before e = no_fault (sym (ap (λ (j : Judgement). j.faults) (other owner (known.parameter_in owner before) refused p)) ∙ e)
 
   abbrev nothing_seen : DefaultSeen
   nothing_seen = record { judgement = refused; value = None }
 
-  default_not_well_typed : {X : Type 0} (owner : List ℕ) → P owner ≡ false → (so_far : List Given) (x : Expr) → (F.default_in owner so_far x).judgement.faults ≡ [] → X
-  default_not_well_typed owner p so_far x e = no_fault (sym (ap (λ (d : DefaultSeen). d.judgement.faults) (other owner (known.default_in owner so_far x) nothing_seen p)) ∙ e)
+  default_not_well_typed : {X : Type 0} (owner : List ℕ) → P owner ≡ false → (before : List (Option DslxValue)) → (F.default_in owner before).judgement.faults ≡ [] → X
+  default_not_well_typed owner p before e = no_fault (sym (ap (λ (d : DefaultSeen). d.judgement.faults) (other owner (known.default_in owner before) nothing_seen p)) ∙ e)
 
-  no_type : (owner : List ℕ) → P owner ≡ false → (so_far : List Given) (t : TypeExpr) → F.type_in owner so_far [] t ≡ None
-  no_type owner p so_far t = other owner (known.type_in owner so_far [] t) None p
+  no_type : (owner : List ℕ) → P owner ≡ false → (before : List (Option DslxValue)) → (F.parameter_in owner before).ty ≡ None
+  no_type owner p before = ap (λ (j : Judgement). j.ty) (other owner (known.parameter_in owner before) refused p)
 
-  no_declared : {X : Type 0} (owner : List ℕ) → P owner ≡ false → (so_far : List Given) (t : TypeExpr) (u : DslxType) → declared_type F owner (known_before so_far) t ≡ Some u → X
-  no_declared owner p so_far t u e = none_some u (sym (ap (λ o. and_then o (λ t. if is_unit t then None else Some t)) (no_type owner p so_far t)) ∙ e)
+  no_declared : {X : Type 0} (owner : List ℕ) → P owner ≡ false → (before : List (Option DslxValue)) (u : DslxType) → parametric_type F owner (known_before before) ≡ Some u → X
+  no_declared owner p before u e = none_some u (sym (ap unless_unit (no_type owner p before)) ∙ e)
 
-  no_default : {X : Type 0} (owner : List ℕ) → P owner ≡ false → (so_far : List Given) (x : Expr) (v : DslxValue) → (F.default_in owner so_far x).value ≡ Some v → X
-  no_default owner p so_far x v e = none_some v (sym (ap (λ (d : DefaultSeen). d.value) (other owner (known.default_in owner so_far x) nothing_seen p)) ∙ e)
+  no_default : {X : Type 0} (owner : List ℕ) → P owner ≡ false → (before : List (Option DslxValue)) (v : DslxValue) → (F.default_in owner before).value ≡ Some v → X
+  no_default owner p before v e = none_some v (sym (ap (λ (d : DefaultSeen). d.value) (other owner (known.default_in owner before) nothing_seen p)) ∙ e)
 
-  mean_filled : (items : Meanings) (owner : List ℕ) → P owner ≡ false → (so_far : List Given) (ps : List Parametric) → ParametricsMean F items owner so_far ps
-  mean_filled items owner p so_far [] = tt
-  mean_filled items owner p so_far (q ∷ ps) = (
-    record { types = λ t e. none_some t (sym (no_type owner p so_far q.ty) ∙ e); defaults = λ x v e k. no_default owner p so_far x v k },
-    λ t v e g. no_declared owner p so_far q.ty t e,
+  mean_filled : (items : Meanings) (owner : List ℕ) → P owner ≡ false → (before : List (Option DslxValue)) (so_far : List Given) (ps : List Parametric) → ParametricsMean F items owner before so_far ps
+  mean_filled items owner p before so_far [] = tt
+  mean_filled items owner p before so_far (q ∷ ps) = (
+    record { types = λ t e. none_some t (sym (no_type owner p before) ∙ e); defaults = λ x v e k. no_default owner p before v k },
+    λ t v e g. no_declared owner p before t e,
   )
 
-  parametrics_filled : (owner : List ℕ) → P owner ≡ false → (so_far : List Given) (ps : List Parametric) → EachParametricKnown F owner so_far ps
-  parametrics_filled owner p so_far [] = tt
-  parametrics_filled owner p so_far (q ∷ ps) = (
+  parametrics_filled : (owner : List ℕ) → P owner ≡ false → (before : List (Option DslxValue)) (ps : List Parametric) → EachParametricKnown F owner before ps
+  parametrics_filled owner p before [] = tt
+  parametrics_filled owner p before (q ∷ ps) = (
     record {
-      declared = λ t e. none_some t (sym (no_type owner p so_far q.ty) ∙ e);
-      typed = λ well_typed. not_well_typed owner p so_far q well_typed.faults;
-      default = λ x e well_typed. default_not_well_typed owner p so_far x well_typed.faults;
+      declared = λ t e. none_some t (sym (no_type owner p before) ∙ e);
+      typed = λ well_typed. not_well_typed owner p before well_typed.faults;
+      default = λ x e well_typed. default_not_well_typed owner p before well_typed.faults;
     },
-    λ t v e g. no_declared owner p so_far q.ty t e,
+    λ t v e g. no_declared owner p before t e,
   )
 
-  arguments_filled : (owner : List ℕ) → P owner ≡ false → (bound : List Given) (fs : List Field) → EachArgumentDeclared F owner bound fs
-  arguments_filled owner p bound [] = tt
-  arguments_filled owner p bound (f ∷ fs) = ((λ t e. none_some t (sym (no_type owner p bound f.ty) ∙ e)), arguments_filled owner p bound fs)
+  arguments_filled : (fs : List Field) → EachArgumentDeclared types (map (λ (a : Field). None) fs) fs
+  arguments_filled [] = tt
+  arguments_filled (f ∷ fs) = ((λ t e. none_some t e), arguments_filled fs)
 
   function_filled : (name : List ℕ) (f : Function) → P name ≡ false → item_of name ≡ Some (d.Function f) → IsFunctionKnown F name f
   function_filled name f p q =
-      let owner : P f.name.name ≡ false = ap P (item_so_named known.whole.items name (d.Function f) q) ∙ p in
+      let same = item_so_named known.whole.items name (d.Function f) q in
+      let owner : P f.name.name ≡ false = ap P same ∙ p in
+      let here : item_of f.name.name ≡ Some (d.Function f) = ap item_of same ∙ q in
       record {
-        mean = mean_filled F.items f.name.name owner [] f.parametrics;
+        mean = mean_filled F.items f.name.name owner [] [] f.parametrics;
         parametrics = parametrics_filled f.name.name owner [] f.parametrics;
-        arguments = λ parametric_args fit. arguments_filled f.name.name owner (parametric_args_bound [] f.parametrics parametric_args) f.arguments;
+        arguments = λ parametric_args fit.
+            let values = values_behind [] parametric_args in
+            let nothing = other f.name.name (known.signature_in f.name.name values) (nothing_typed (item_of f.name.name)) owner ∙ ap nothing_typed here in
+            subst (λ (x : Signature). EachArgumentDeclared types x.arguments f.arguments) (sym nothing) (arguments_filled f.arguments);
         calls = λ parametric_args fit sound. absurd (true≢false (sym sound ∙ ap (λ b. b && known.is_sound (record { name = f.name.name; parametric_args = parametric_args })) owner));
       }
 

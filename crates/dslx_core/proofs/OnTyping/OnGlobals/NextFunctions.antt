@@ -13,29 +13,30 @@ use Rattle.dslx_meaning.specs.Environment.{Env, Given}
 use Rattle.dslx_meaning.specs.Items.{call_of, all_parametric_args, as_function, function_value, inferred_from, item_named, parametric_args_bound, with_number}
 use Rattle.dslx_meaning.specs.Lists.{and_then}
 use Rattle.dslx_meaning.specs.Meaning.{value_of, written_type}
-use Rattle.dslx_meaning.specs.Types.{is_unit}
 use Rattle.dslx_meaning.specs.Values.{type_of_value}
 use Rattle.dslx_meaning.specs.declared.ty.DslxType.{DslxType}
 use Rattle.dslx_meaning.specs.declared.value.DslxValue.{DslxValue}
-use Rattle.dslx_meaning.specs.Rules.CallRules.{declared_type, known_before, result_type}
+use Rattle.dslx_meaning.specs.Rules.AggregateRules.{first_type_of}
+use Rattle.dslx_meaning.specs.Rules.CallRules.{parametric_type, known_before}
+use Rattle.dslx_meaning.specs.Rules.TypeRules.{unless_unit}
 use Rattle.dslx_meaning.specs.Rules.ConstantRules.{is_empty}
-use Rattle.dslx_meaning.specs.Rules.ItemRules.{arguments_found, body_typing, arguments_typed, function_seen, function_type_env, item_type_env, typing_of_inner, parametrics_found, result_typing}
-use Rattle.dslx_meaning.specs.Rules.TypeEnvs.{DefaultSeen, Instance, Judgement, GlobalEnv}
+use Rattle.dslx_meaning.specs.Rules.ItemRules.{arguments_found, body_typing, arguments_typed, function_seen, function_type_env, item_type_env, typing_of_inner, typing_of_type, parametrics_found, result_typing}
+use Rattle.dslx_meaning.specs.Rules.TypeEnvs.{DefaultSeen, Instance, Judgement, GlobalEnv, Signature}
 use Rattle.dslx_meaning.specs.Rules.Mentions.{AsFunction, Mention, expr_if, mentioned, mentioned_in_type, names_mentioned, parametrics_mentions}
-use Rattle.dslx_meaning.specs.Rules.ModuleRules.{default_known, found_of_instance, found_of_item, globals_of, globals_over, size_known, sound_instance}
+use Rattle.dslx_meaning.specs.Rules.ModuleRules.{declared_type, default_if, default_known, found_of_instance, found_of_item, globals_of, globals_over, signature_of, size_known, sound_instance}
 use Rattle.dslx_meaning.specs.Rules.NameRules.{local_name}
 use Rattle.dslx_core.specs.Typing.Laws.Recursion.{HasNoCycle}
 use Rattle.dslx_core.proofs.Lemmas.Typing.Laws.{AllGiven, given_agree, given_here, given_more, parametric_args_one, value_depends, written_type_depends}
-use Rattle.dslx_core.specs.Typing.Typed.Complete.{EachArgumentDeclared, EachParametricKnown, FitArguments, IsCallable, IsComplete, IsDefaultKnown, IsWellTypedPart, IsFunctionKnown, IsParametricKnown}
+use Rattle.dslx_core.specs.Typing.Typed.Complete.{EachArgumentDeclared, EachParametricKnown, FitArguments, IsCallable, IsComplete, IsDefaultKnown, IsWellTypedPart, IsFunctionKnown, IsParametricKnown, signature_at}
 use Rattle.dslx_core.specs.Typing.Typed.Declared.{Declarations, IsDeclared}
 use Rattle.dslx_core.specs.Typing.Typed.Given.{GivesOf}
-use Rattle.dslx_core.specs.Typing.Typed.Numbers.{AllOwn, AreOwn, FitParametricArgs, ParametricMeans, ParametricsMean}
+use Rattle.dslx_core.specs.Typing.Typed.Numbers.{AllOwn, AreOwn, FitParametricArgs, ParametricMeans, ParametricsMean, values_behind}
 use Rattle.dslx_core.specs.Typing.Typed.WellTyped.{AreOperandsOf}
-use Rattle.dslx_core.proofs.Lemmas.Typing.Typed.{declared_is, own_bound, own_more, own_value, same_some}
+use Rattle.dslx_core.proofs.Lemmas.Typing.Typed.{not_unit_is, parametric_is, own_bound, own_more, own_value, same_some}
 use Rattle.dslx_core.proofs.Lemmas.Typing.Sound.{all_in, none_in}
 use Rattle.dslx_core.specs.Typing.TypingRelations.Reached.{AllNamed}
 use Rattle.dslx_core.proofs.Lemmas.Typing.TypingRelations.{all_weaker, default_reached, written_type_reaches}
-use Rattle.dslx_core.specs.Typing.Depends.Alike.{CalleeAlike, EachArgumentAlike, EachParametricAlike, FunctionAlike}
+use Rattle.dslx_core.specs.Typing.Depends.Alike.{CalleeAlike, DeclaredAlike, FunctionAlike}
 use Rattle.dslx_core.specs.Typing.Depends.Settled.{BindsNoConstant}
 use Rattle.dslx_core.proofs.Lemmas.Typing.Depends as of
 use Rattle.dslx_core.proofs.Lemmas.Typing.Depends.{all_alike, den_parts, passes, passes_closed, passes_next}
@@ -47,16 +48,10 @@ use Rattle.dslx_core.specs.Typing.GlobalEnv.Passing.{PassingHaveValues}
 use Rattle.dslx_core.proofs.OnTyping.OnGlobals.Next as of_next
 use Rattle.dslx_core.proofs.OnTyping.OnGlobals.OnFilled.{stage_filled}
 
--- what is known of the text of an item, whatever it is that the text mentions
-pub record AlikeAt (owner : List ℕ) (a b : GlobalEnv) : Type 0 where
-  pub ty : (so_far : List Given) (t : TypeExpr) → a.type_in owner so_far [] t ≡ b.type_in owner so_far [] t
-  pub seen : (so_far : List Given) (t : TypeExpr) → a.type_seen_in owner so_far t ≡ b.type_seen_in owner so_far t
-  pub default : (so_far : List Given) (e : Expr) → a.default_in owner so_far e ≡ b.default_in owner so_far e
-
 module _ (m : Module) (free : HasNoCycle m) (plain : BindsNoConstant m) (well_typed : EachItemWellTyped m) (k : ℕ) (stand : (w : ℕ) → PassingHaveValues w (passes m k) (globals_of m))
     (G : GlobalEnv) (s : of.Stage (passes m (suc k)) m (globals_of m) G)
     (carry : (t : DslxType) → IsDeclared (filled 1 (passes m k) (globals_of m)).items.type_named t → IsDeclared (filled 2 (passes m k) (globals_of m)).items.type_named t → IsDeclared G.items.type_named t)
-    (name : List ℕ) (f : Function) (is : item_named name m.items ≡ Some (d.Function f)) (q : passes m (suc k) name ≡ true) (alike : AlikeAt f.name.name G (globals_of m)) where
+    (name : List ℕ) (f : Function) (is : item_named name m.items ≡ Some (d.Function f)) (q : passes m (suc k) name ≡ true) (alike : DeclaredAlike G (globals_of m) f.name.name) where
   abbrev K : GlobalEnv
   K = globals_of m
 
@@ -114,8 +109,38 @@ module _ (m : Module) (free : HasNoCycle m) (plain : BindsNoConstant m) (well_ty
 
   -- ---- types and defaults of parametrics
 
-  shown : (so_far : List Given) (t : TypeExpr) → G.type_in owner so_far [] t ≡ K.type_in owner so_far [] t
-  shown so_far t = alike.ty so_far t
+  owner_named : item_named owner m.items ≡ Some (d.Function f)
+  owner_named = of.named_again P m K (F 1) (passes_closed m k) (stage_filled m 1 k) plain name (d.Function f) is
+
+  named_own : item_named owner K.whole.items ≡ Some (d.Function f)
+  named_own = of_next.named m free plain well_typed k stand owner (d.Function f) owner_named
+
+  -- behind these values so much is bound, and these parametrics are left
+  abbrev Here : List (Option DslxValue) → List Given → List Parametric → Type 0
+  Here = of.Stands owner (d.Function f)
+
+  parameter_of : (before : List (Option DslxValue)) (so_far : List Given) (p : Parametric) (ps : List Parametric) → Here before so_far (p ∷ ps) → G.parameter_in owner before ≡ typing_of_inner (item_type_env K owner so_far) p.ty
+  parameter_of before so_far p ps h = alike.parameter before ∙ long.declared.parameter before ∙ of.parameter_is owner (d.Function f) before so_far p ps h K named_own
+
+  parameter_over : (v : ℕ) (before : List (Option DslxValue)) (so_far : List Given) (p : Parametric) (ps : List Parametric) → Here before so_far (p ∷ ps)
+      → typing_of_inner (item_type_env K owner so_far) p.ty ≡ typing_of_inner (item_type_env (F v) owner so_far) p.ty
+  parameter_over v before so_far p ps h =
+      sym (of.parameter_is owner (d.Function f) before so_far p ps h K named_own) ∙ (short v).declared.parameter before ∙ of.parameter_is owner (d.Function f) before so_far p ps h (F v) named_own
+
+  default_of : (before : List (Option DslxValue)) (so_far : List Given) (p : Parametric) (ps : List Parametric) → Here before so_far (p ∷ ps) → G.default_in owner before ≡ default_if (item_type_env K owner so_far) p.default
+  default_of before so_far p ps h = alike.default before ∙ long.declared.default before ∙ of.default_is owner (d.Function f) before so_far p ps h K named_own
+
+  default_over : (v : ℕ) (before : List (Option DslxValue)) (so_far : List Given) (p : Parametric) (ps : List Parametric) → Here before so_far (p ∷ ps)
+      → default_if (item_type_env K owner so_far) p.default ≡ default_if (item_type_env (F v) owner so_far) p.default
+  default_over v before so_far p ps h =
+      sym (of.default_is owner (d.Function f) before so_far p ps h K named_own) ∙ (short v).declared.default before ∙ of.default_is owner (d.Function f) before so_far p ps h (F v) named_own
+
+  -- the signature of an instance
+  signature_over : (v : ℕ) (parametric_args : List DslxValue)
+      → signature_at G owner parametric_args ≡ signature_of (item_type_env (F v) owner (parametric_args_bound [] f.parametrics parametric_args)) (Some (d.Function f))
+  signature_over v parametric_args =
+      let values = values_behind [] parametric_args in
+      alike.signature values ∙ long.declared.signature values ∙ (short v).declared.signature values ∙ of.signature_is owner (d.Function f) parametric_args (F v) named_own
 
   -- a part is judged with nothing wrong over either as it is by what passes
   well_typed_over : (v : ℕ) (j a b : Judgement) → j ≡ a → a ≡ b → AllNamed P a.reached → IsWellTypedPart G j → IsWellTypedPart (F v) b
@@ -150,22 +175,20 @@ module _ (m : Module) (free : HasNoCycle m) (plain : BindsNoConstant m) (well_ty
   abbrev Bound : List Given → Type 0
   Bound so_far = AreOwn (types 1) so_far × AreOwn (types 2) so_far
 
-  abbrev OverAlike : List Parametric → Type 0
-  OverAlike ps = EachParametricAlike K (globals_over K) owner ps × EachParametricAlike (globals_over K) (globals_over (F 1)) owner ps × EachParametricAlike (globals_over K) (globals_over (F 2)) owner ps
-
-  declared_one : (v : ℕ) (so_far : List Given) (p : Parametric) (t : DslxType) → AreOwn (types v) so_far → K.type_in owner so_far [] p.ty ≡ (globals_over K).type_in owner so_far [] p.ty
-      → (globals_over K).type_in owner so_far [] p.ty ≡ (globals_over (F v)).type_in owner so_far [] p.ty → G.type_in owner so_far [] p.ty ≡ Some t
+  declared_one : (v : ℕ) (before : List (Option DslxValue)) (so_far : List Given) (p : Parametric) (ps : List Parametric) (t : DslxType) → AreOwn (types v) so_far → Here before so_far (p ∷ ps) → (G.parameter_in owner before).ty ≡ Some t
       → (written_type p.ty (env_of (F v) so_far) ≡ Some t) × IsDeclared (types v) t
-  declared_one v so_far p t own x y e = (parametric_has_value (F v) (complete v) (typed v) owner p).means so_far t own (sym y ∙ sym x ∙ sym (shown so_far p.ty) ∙ e)
+  declared_one v before so_far p ps t own h e =
+      (parametric_has_value (F v) (complete v) (typed v) owner p).means so_far t own (ap (λ (j : Judgement). j.ty) (sym (parameter_over v before so_far p ps h) ∙ sym (parameter_of before so_far p ps h)) ∙ e)
 
   moved : (v : ℕ) (t : DslxType) (x : DslxValue) → IsDeclared (types v) t → GivesOf next t (Some x) → GivesOf (types v) t (Some x)
   moved v t x h g = record { value = g.value; is = g.is; of = g.of; declared = h }
 
-  behind : (so_far : List Given) (p : Parametric) (ps : List Parametric) (t : DslxType) (x : DslxValue) → OverAlike (p ∷ ps) → Bound so_far → declared_type G owner (known_before so_far) p.ty ≡ Some t → GivesOf next t (Some x) → Bound (with_number so_far p x)
-  behind so_far p ps t x a own e g =
-      let there = declared_is G owner so_far p.ty t e in
-      let one = declared_one 1 so_far p t own.0 (a.0.0.ty so_far []) (a.1.0.ty so_far []) there in
-      let two = declared_one 2 so_far p t own.1 (a.0.0.ty so_far []) (a.2.0.ty so_far []) there in (
+  behind : (before : List (Option DslxValue)) (so_far : List Given) (p : Parametric) (ps : List Parametric) (t : DslxType) (x : DslxValue) → Here before so_far (p ∷ ps) → Bound so_far
+      → parametric_type G owner (known_before before) ≡ Some t → GivesOf next t (Some x) → Bound (with_number so_far p x)
+  behind before so_far p ps t x h own e g =
+      let there = parametric_is G owner before t e in
+      let one = declared_one 1 before so_far p ps t own.0 h there in
+      let two = declared_one 2 before so_far p ps t own.1 h there in (
         own_more (types 1) so_far p x own.0 (own_value (types 1) t (Some x) x refl (moved 1 t x one.1 g)),
         own_more (types 2) so_far p x own.1 (own_value (types 2) t (Some x) x refl (moved 2 t x two.1 g)),
       )
@@ -173,23 +196,16 @@ module _ (m : Module) (free : HasNoCycle m) (plain : BindsNoConstant m) (well_ty
   type_reached : (names : List (List ℕ)) (so_far : List Given) (t : TypeExpr) → ExprDen (mentioned_in_type t names) → AllNamed P (typing_of_inner (item_type_env K owner so_far) t).reached
   type_reached names so_far t h = written_type_reaches P t names (item_type_env K owner so_far) ((stage_filled m 1 k).reach (mentioned_in_type t names) h)
 
-  shown_default : (so_far : List Given) (x : Expr) → G.default_in owner so_far x ≡ K.default_in owner so_far x
-  shown_default so_far x = alike.default so_far x
+  default_reached_of : (names : List (List ℕ)) (p : Parametric) → ExprDen (expr_if p.default names) → (so_far : List Given) (x : Expr) → p.default ≡ Some x → AllNamed P (default_known (item_type_env K owner so_far) x).judgement.reached
+  default_reached_of names p h so_far x e = default_reached P K p.default names ((stage_filled m 1 k).reach (expr_if p.default names) h) (item_type_env K owner so_far) refl x e
 
-  shown_seen : (so_far : List Given) (t : TypeExpr) → G.type_seen_in owner so_far t ≡ K.type_seen_in owner so_far t
-  shown_seen so_far t = alike.seen so_far t
-
-  default_reached_of : (names : List (List ℕ)) (p : Parametric) → ExprDen (expr_if p.default names) → (so_far : List Given) (x : Expr) → p.default ≡ Some x → AllNamed P (default_known K owner so_far x).judgement.reached
-  default_reached_of names p h so_far x e = default_reached P K p.default names ((stage_filled m 1 k).reach (expr_if p.default names) h) owner so_far x e
-
-  default_both : (so_far : List Given) (x : Expr) → G.default_in owner so_far x ≡ default_known (F 1) owner so_far x → G.default_in owner so_far x ≡ default_known (F 2) owner so_far x
-      → IsDefaultKnown (types 1) (default_known (F 1) owner so_far x) → IsDefaultKnown (types 2) (default_known (F 2) owner so_far x) → IsDefaultKnown next (G.default_in owner so_far x)
-  default_both so_far x one two a b =
-      let same : b.value ≡ a.value = same_some b.value a.value (sym b.is ∙ ap (λ (c : DefaultSeen). c.value) (sym two ∙ one) ∙ a.is) in
+  default_both : (seen one two : DefaultSeen) → seen ≡ one → seen ≡ two → IsDefaultKnown (types 1) one → IsDefaultKnown (types 2) two → IsDefaultKnown next seen
+  default_both seen one two x y a b =
+      let same : b.value ≡ a.value = same_some b.value a.value (sym b.is ∙ ap (λ (c : DefaultSeen). c.value) (sym y ∙ x) ∙ a.is) in
       record {
         value = a.value;
-        is = ap (λ (c : DefaultSeen). c.value) one ∙ a.is;
-        typed = ap (λ (c : DefaultSeen). c.judgement.ty) one ∙ a.typed;
+        is = ap (λ (c : DefaultSeen). c.value) x ∙ a.is;
+        typed = ap (λ (c : DefaultSeen). c.judgement.ty) x ∙ a.typed;
         own = record {
           value = a.own.value;
           is = a.own.is;
@@ -200,24 +216,27 @@ module _ (m : Module) (free : HasNoCycle m) (plain : BindsNoConstant m) (well_ty
 
   -- ---- all parametrics
 
-  abbrev Both : List Given → List Parametric → Type 0
-  Both so_far ps = ParametricsMean G G.items owner so_far ps × EachParametricKnown G owner so_far ps
+  abbrev Both : List (Option DslxValue) → List Given → List Parametric → Type 0
+  Both before so_far ps = ParametricsMean G G.items owner before so_far ps × EachParametricKnown G owner before ps
 
   front : (names : List (List ℕ)) (p : Parametric) (ps : List Parametric) → ExprDen (parametrics_mentions (p ∷ ps) names) → ExprDen (mentioned_in_type p.ty names ++ expr_if p.default names) × ExprDen (parametrics_mentions ps (p.name.name ∷ names))
   front names p ps h = den_parts P m (mentioned_in_type p.ty names ++ expr_if p.default names) (parametrics_mentions ps (p.name.name ∷ names)) h
 
-  one_known : (names : List (List ℕ)) (so_far : List Given) → AllGiven names so_far → Bound so_far → (p : Parametric) (ps : List Parametric) → OverAlike (p ∷ ps) → ExprDen (parametrics_mentions (p ∷ ps) names)
-      → ParametricMeans G G.items owner so_far p × IsParametricKnown G owner so_far p
-  one_known names so_far given own p ps a h = (means, globals_of_it)
+  one_known : (names : List (List ℕ)) (before : List (Option DslxValue)) (so_far : List Given) → AllGiven names so_far → Bound so_far → (p : Parametric) (ps : List Parametric) → Here before so_far (p ∷ ps) → ExprDen (parametrics_mentions (p ∷ ps) names)
+      → ParametricMeans G G.items owner before so_far p × IsParametricKnown G owner before p
+  one_known names before so_far given own p ps a h = (means, globals_of_it)
     where
       both : ExprDen (mentioned_in_type p.ty names) × ExprDen (expr_if p.default names)
       both = den_parts P m (mentioned_in_type p.ty names) (expr_if p.default names) (front names p ps h).0
 
-      one : (x : Expr) → p.default ≡ Some x → G.default_in owner so_far x ≡ default_known (F 1) owner so_far x
-      one x e = shown_default so_far x ∙ a.0.0.default so_far x e ∙ a.1.0.default so_far x e
+      default_by : GlobalEnv → Option Expr → DefaultSeen
+      default_by known o = default_if (item_type_env known owner so_far) o
 
-      two : (x : Expr) → p.default ≡ Some x → G.default_in owner so_far x ≡ default_known (F 2) owner so_far x
-      two x e = shown_default so_far x ∙ a.0.0.default so_far x e ∙ a.2.0.default so_far x e
+      at : (x : Expr) → p.default ≡ Some x → G.default_in owner before ≡ default_known (item_type_env K owner so_far) x
+      at x e = default_of before so_far p ps a ∙ ap (default_by K) e
+
+      to : (v : ℕ) (x : Expr) → p.default ≡ Some x → default_known (item_type_env K owner so_far) x ≡ default_known (item_type_env (F v) owner so_far) x
+      to v x e = ap (default_by K) (sym e) ∙ default_over v before so_far p ps a ∙ ap (default_by (F v)) e
 
       first : ParametricHasValue (F 1) owner p
       first = parametric_has_value (F 1) (complete 1) (typed 1) owner p
@@ -225,45 +244,49 @@ module _ (m : Module) (free : HasNoCycle m) (plain : BindsNoConstant m) (well_ty
       second : ParametricHasValue (F 2) owner p
       second = parametric_has_value (F 2) (complete 2) (typed 2) owner p
 
-      means : ParametricMeans G G.items owner so_far p
+      means : ParametricMeans G G.items owner before so_far p
       means = record {
-        types = λ t e. same_written names so_far given p.ty both.0 ∙ (declared_one 1 so_far p t own.0 (a.0.0.ty so_far []) (a.1.0.ty so_far []) e).0;
-        defaults = λ x v e z. same_value names so_far given x (subst (λ o. ExprDen (expr_if o names)) e both.1) ∙ first.default_means so_far x v (sym (ap (λ (c : DefaultSeen). c.value) (one x e)) ∙ z);
+        types = λ t e. same_written names so_far given p.ty both.0 ∙ (declared_one 1 before so_far p ps t own.0 a e).0;
+        defaults = λ x v e z. same_value names so_far given x (subst (λ o. ExprDen (expr_if o names)) e both.1) ∙ first.default_means so_far x v (sym (ap (λ (c : DefaultSeen). c.value) (at x e ∙ to 1 x e)) ∙ z);
       }
 
-      globals_of_it : IsParametricKnown G owner so_far p
+      globals_of_it : IsParametricKnown G owner before p
       globals_of_it = record {
-        declared = λ t e. carry t (declared_one 1 so_far p t own.0 (a.0.0.ty so_far []) (a.1.0.ty so_far []) e).1 (declared_one 2 so_far p t own.1 (a.0.0.ty so_far []) (a.2.0.ty so_far []) e).1;
+        declared = λ t e. carry t (declared_one 1 before so_far p ps t own.0 a e).1 (declared_one 2 before so_far p ps t own.1 a e).1;
         typed = λ z.
-            let r = first.typed so_far own.0 (well_typed_over 1 (G.type_seen_in owner so_far p.ty) (typing_of_inner (item_type_env K owner so_far) p.ty) (typing_of_inner (item_type_env (F 1) owner so_far) p.ty)
-            (shown_seen so_far p.ty ∙ a.0.0.seen so_far) (a.1.0.seen so_far) (type_reached names so_far p.ty both.0) z) in
-            (r.0, shown so_far p.ty ∙ a.0.0.ty so_far [] ∙ a.1.0.ty so_far [] ∙ r.1, r.2);
+            let here = typing_of_inner (item_type_env K owner so_far) p.ty in
+            let there = typing_of_inner (item_type_env (F 1) owner so_far) p.ty in
+            let r = first.typed so_far own.0 (well_typed_over 1 (G.parameter_in owner before) here there (parameter_of before so_far p ps a) (parameter_over 1 before so_far p ps a) (type_reached names so_far p.ty both.0) z) in
+            (r.0, ap (λ (j : Judgement). j.ty) (parameter_of before so_far p ps a ∙ parameter_over 1 before so_far p ps a) ∙ r.1, r.2);
         default = λ x e z.
             let seen = λ (c : DefaultSeen). c.judgement in
-            let here = ap seen (shown_default so_far x ∙ a.0.0.default so_far x e) in
             let reached = default_reached_of names p both.1 so_far x e in
-            default_both so_far x (one x e) (two x e)
-            (first.default so_far x own.0 (well_typed_over 1 (G.default_in owner so_far x).judgement (default_known K owner so_far x).judgement (default_known (F 1) owner so_far x).judgement here (ap seen (a.1.0.default so_far x e)) reached z))
-            (second.default so_far x own.1 (well_typed_over 2 (G.default_in owner so_far x).judgement (default_known K owner so_far x).judgement (default_known (F 2) owner so_far x).judgement here (ap seen (a.2.0.default so_far x e)) reached z));
+            let here = default_known (item_type_env K owner so_far) x in
+            let over = λ (v : ℕ). default_known (item_type_env (F v) owner so_far) x in
+            default_both (G.default_in owner before) (over 1) (over 2) (at x e ∙ to 1 x e) (at x e ∙ to 2 x e)
+            (first.default so_far x own.0 (well_typed_over 1 (G.default_in owner before).judgement here.judgement (over 1).judgement (ap seen (at x e)) (ap seen (to 1 x e)) reached z))
+            (second.default so_far x own.1 (well_typed_over 2 (G.default_in owner before).judgement here.judgement (over 2).judgement (ap seen (at x e)) (ap seen (to 2 x e)) reached z));
       }
 
-  parametric_args_known : (names : List (List ℕ)) (so_far : List Given) → AllGiven names so_far → Bound so_far → (ps : List Parametric) → OverAlike ps → ExprDen (parametrics_mentions ps names) → Both so_far ps
-  parametric_args_known names so_far given own [] a h = (tt, tt)
-  parametric_args_known names so_far given own (p ∷ ps) a h =
-      let it = one_known names so_far given own p ps a h in
-      let rest = λ (t : DslxType) (x : DslxValue) (e : declared_type G owner (known_before so_far) p.ty ≡ Some t) (g : GivesOf next t (Some x)).
-      parametric_args_known (p.name.name ∷ names) (with_number so_far p x) ((x, given_here p.name.name x so_far), given_more names p.name.name x so_far given) (behind so_far p ps t x a own e g) ps (a.0.1, a.1.1, a.2.1) (front names p ps h).1 in
+  parametric_args_known : (names : List (List ℕ)) (before : List (Option DslxValue)) (so_far : List Given) → AllGiven names so_far → Bound so_far → (ps : List Parametric) → Here before so_far ps → ExprDen (parametrics_mentions ps names) → Both before so_far ps
+  parametric_args_known names before so_far given own [] a h = (tt, tt)
+  parametric_args_known names before so_far given own (p ∷ ps) a h =
+      let it = one_known names before so_far given own p ps a h in
+      let rest = λ (t : DslxType) (x : DslxValue) (e : parametric_type G owner (known_before before) ≡ Some t) (g : GivesOf next t (Some x)).
+      parametric_args_known (p.name.name ∷ names) (Some x ∷ before) (with_number so_far p x) ((x, given_here p.name.name x so_far), given_more names p.name.name x so_far given) (behind before so_far p ps t x a own e g) ps
+      (of.stands_next owner (d.Function f) before so_far p ps x a) (front names p ps h).1 in
       ((it.0, λ t x e g. (rest t x e g).0), (it.1, λ t x e g. (rest t x e g).1))
 
-  own_both : (so_far : List Given) → Bound so_far → (ps : List Parametric) → OverAlike ps → (parametric_args : List DslxValue) → FitParametricArgs G owner so_far ps parametric_args → AllOwn (types 1) parametric_args × AllOwn (types 2) parametric_args
-  own_both so_far own [] a [] h = (tt, tt)
-  own_both so_far own [] a (x ∷ xs) h = absurd h
-  own_both so_far own (p ∷ ps) a [] h = absurd h
-  own_both so_far own (p ∷ ps) a (x ∷ xs) h =
-      let there = declared_is G owner so_far p.ty h.0.0 h.0.1 in
-      let one = declared_one 1 so_far p h.0.0 own.0 (a.0.0.ty so_far []) (a.1.0.ty so_far []) there in
-      let two = declared_one 2 so_far p h.0.0 own.1 (a.0.0.ty so_far []) (a.2.0.ty so_far []) there in
-      let rest = own_both (with_number so_far p x) (behind so_far p ps h.0.0 x a own h.0.1 h.0.2) ps (a.0.1, a.1.1, a.2.1) xs h.1 in (
+  own_both : (before : List (Option DslxValue)) (so_far : List Given) → Bound so_far → (ps : List Parametric) → Here before so_far ps → (parametric_args : List DslxValue) → FitParametricArgs G owner before ps parametric_args
+      → AllOwn (types 1) parametric_args × AllOwn (types 2) parametric_args
+  own_both before so_far own [] a [] h = (tt, tt)
+  own_both before so_far own [] a (x ∷ xs) h = absurd h
+  own_both before so_far own (p ∷ ps) a [] h = absurd h
+  own_both before so_far own (p ∷ ps) a (x ∷ xs) h =
+      let there = parametric_is G owner before h.0.0 h.0.1 in
+      let one = declared_one 1 before so_far p ps h.0.0 own.0 a there in
+      let two = declared_one 2 before so_far p ps h.0.0 own.1 a there in
+      let rest = own_both (Some x ∷ before) (with_number so_far p x) (behind before so_far p ps h.0.0 x a own h.0.1 h.0.2) ps (of.stands_next owner (d.Function f) before so_far p ps x a) xs h.1 in (
         (own_value (types 1) h.0.0 (Some x) x refl (moved 1 h.0.0 x one.1 h.0.2), rest.0),
         (own_value (types 2) h.0.0 (Some x) x refl (moved 2 h.0.0 x two.1 h.0.2), rest.1),
       )
@@ -273,22 +296,31 @@ module _ (m : Module) (free : HasNoCycle m) (plain : BindsNoConstant m) (well_ty
   abbrev as_parametric : Field → Parametric
   as_parametric x = record { name = x.name; ty = x.ty; default = None }
 
-  abbrev ArgumentsAlike : List Field → Type 0
-  ArgumentsAlike fs = EachArgumentAlike K (globals_over K) owner fs × EachArgumentAlike (globals_over K) (globals_over (F 1)) owner fs × EachArgumentAlike (globals_over K) (globals_over (F 2)) owner fs
+  -- the types of arguments, over either
+  abbrev argument_types : ℕ → List Given → List Field → List (Option DslxType)
+  argument_types v bound fs = map (λ (a : Field). declared_type (item_type_env (F v) owner bound) a.ty) fs
 
-  arguments_known : (bound : List Given) → Bound bound → (fs : List Field) → ArgumentsAlike fs → EachArgumentDeclared G owner bound fs
+  argument_declared : (v : ℕ) (bound : List Given) (x : Field) (t : DslxType) → AreOwn (types v) bound → declared_type (item_type_env (F v) owner bound) x.ty ≡ Some t → IsDeclared (types v) t
+  argument_declared v bound x t own e =
+      ((parametric_has_value (F v) (complete v) (typed v) owner (as_parametric x)).means bound t own (not_unit_is (typing_of_type (item_type_env (F v) owner bound) x.ty).ty t e)).1
+
+  abbrev behind_first : List (Option DslxType) → List (Option DslxType)
+  behind_first [] = []
+  behind_first (t ∷ ts) = ts
+
+  arguments_known : (bound : List Given) → Bound bound → (fs : List Field) → argument_types 1 bound fs ≡ argument_types 2 bound fs → EachArgumentDeclared next (argument_types 1 bound fs) fs
   arguments_known bound own [] a = tt
   arguments_known bound own (x ∷ fs) a = (
-    (λ t e. carry t (declared_one 1 bound (as_parametric x) t own.0 (a.0.0 bound []) (a.1.0 bound []) e).1 (declared_one 2 bound (as_parametric x) t own.1 (a.0.0 bound []) (a.2.0 bound []) e).1),
-    arguments_known bound own fs (a.0.1, a.1.1, a.2.1),
+    (λ t e. carry t (argument_declared 1 bound x t own.0 e) (argument_declared 2 bound x t own.1 (sym (ap first_type_of a) ∙ e))),
+    arguments_known bound own fs (ap behind_first a),
   )
 
-  operands_from : (bound : List Given) → Bound bound → (before : List (List ℕ)) (fs : List Field) → ArgumentsAlike fs → IsWellTypedFound (F 1) (arguments_found (item_type_env (F 1) owner bound) before fs) → (vs : List DslxValue)
-      → FitArguments G owner bound fs vs → AreOperandsOf (item_type_env (F 1) owner bound) fs vs
-  operands_from bound own before [] a h [] g = tt
-  operands_from bound own before [] a h (v ∷ vs) g = absurd g
-  operands_from bound own before (x ∷ fs) a h [] g = absurd g
-  operands_from bound own before (x ∷ fs) a h (v ∷ vs) g =
+  operands_from : (bound : List Given) → Bound bound → (before : List (List ℕ)) (fs : List Field) → IsWellTypedFound (F 1) (arguments_found (item_type_env (F 1) owner bound) before fs) → (vs : List DslxValue)
+      → FitArguments next (argument_types 1 bound fs) vs → AreOperandsOf (item_type_env (F 1) owner bound) fs vs
+  operands_from bound own before [] h [] g = tt
+  operands_from bound own before [] h (v ∷ vs) g = absurd g
+  operands_from bound own before (x ∷ fs) h [] g = absurd g
+  operands_from bound own before (x ∷ fs) h (v ∷ vs) g =
       let context = item_type_env (F 1) owner bound in
       let j = typing_of_inner context x.ty in
       let rest = arguments_found context (x.name.name ∷ before) fs in
@@ -296,41 +328,29 @@ module _ (m : Module) (free : HasNoCycle m) (plain : BindsNoConstant m) (well_ty
       let both = none_in j.faults rest.faults listed.1 in
       let reached = all_in (F 1).is_sound j.reached rest.reached h.reached in
       let r = inner_globals (F 1) (complete 1) (typed 1) owner bound own.0 (as_parametric x) (record { faults = both.0; reached = reached.0 }) in
-      let there = shown bound x.ty ∙ a.0.0 bound [] ∙ a.1.0 bound [] ∙ r.1 in
-      let declared = ap (λ o. and_then o (λ t. if is_unit t then None else Some t)) there ∙ (λ i. if (r.2 i) then None else Some r.0) in (
-        (r.0, r.1, moved 1 r.0 v (declared_one 1 bound (as_parametric x) r.0 own.0 (a.0.0 bound []) (a.1.0 bound []) (shown bound x.ty ∙ a.0.0 bound [] ∙ a.1.0 bound [] ∙ r.1)).1 (g.0 r.0 declared)),
-        operands_from bound own (x.name.name ∷ before) fs (a.0.1, a.1.1, a.2.1) (record { faults = both.1; reached = reached.1 }) vs g.1,
+      let declared = ap unless_unit r.1 ∙ (λ i. if (r.2 i) then None else Some r.0) in (
+        (r.0, r.1, moved 1 r.0 v (argument_declared 1 bound x r.0 own.0 declared) (g.0 r.0 declared)),
+        operands_from bound own (x.name.name ∷ before) fs (record { faults = both.1; reached = reached.1 }) vs g.1,
       )
 
   -- ---- instances
 
-  owner_named : item_named owner m.items ≡ Some (d.Function f)
-  owner_named = of.named_again P m K (F 1) (passes_closed m k) (stage_filled m 1 k) plain name (d.Function f) is
-
   none_bound : Bound []
   none_bound = (none_own (F 1), none_own (F 2))
 
-  parametric_args_alike : OverAlike f.parametrics
-  parametric_args_alike = (long.parametrics, (short 1).parametrics, (short 2).parametrics)
-
-  arguments_alike : ArgumentsAlike f.arguments
-  arguments_alike = (long.arguments, (short 1).arguments, (short 2).arguments)
+  all_left : Here [] [] f.parametrics
+  all_left = of.stands_first owner (d.Function f)
 
   bound_both : (parametric_args : List DslxValue) → FitParametricArgs G owner [] f.parametrics parametric_args → Bound (parametric_args_bound [] f.parametrics parametric_args)
   bound_both parametric_args fit =
-      let own = own_both [] none_bound f.parametrics parametric_args_alike parametric_args fit in
+      let own = own_both [] [] none_bound f.parametrics all_left parametric_args fit in
       (own_bound (types 1) [] f.parametrics parametric_args (none_own (F 1)) own.0, own_bound (types 2) [] f.parametrics parametric_args (none_own (F 2)) own.1)
 
-  result_is : (v : ℕ) (bound : List Given) → result_type G owner (known_before bound) f.result ≡ (result_typing (item_type_env (F v) owner bound) f.result).ty
-  result_is v bound = passing f.result ∙ long.result (known_before bound) ∙ (short v).result (known_before bound) ∙ typing f.result
-    where
-      passing : (o : Option TypeExpr) → result_type G owner (known_before bound) o ≡ result_type K owner (known_before bound) o
-      passing None = refl
-      passing (Some t) = shown bound t
+  result_is : (v : ℕ) (parametric_args : List DslxValue) → (signature_at G owner parametric_args).result ≡ (result_typing (item_type_env (F v) owner (parametric_args_bound [] f.parametrics parametric_args)) f.result).ty
+  result_is v parametric_args = ap (λ (x : Signature). x.result) (signature_over v parametric_args)
 
-      typing : (o : Option TypeExpr) → result_type (globals_over (F v)) owner (known_before bound) o ≡ (result_typing (item_type_env (F v) owner bound) o).ty
-      typing None = refl
-      typing (Some t) = refl
+  arguments_are : (v : ℕ) (parametric_args : List DslxValue) → (signature_at G owner parametric_args).arguments ≡ argument_types v (parametric_args_bound [] f.parametrics parametric_args) f.arguments
+  arguments_are v parametric_args = ap (λ (x : Signature). x.arguments) (signature_over v parametric_args)
 
   nothing_in : {A : Type 0} (xs : List A) → is_empty xs ≡ true → xs ≡ []
   nothing_in [] e = refl
@@ -390,28 +410,33 @@ module _ (m : Module) (free : HasNoCycle m) (plain : BindsNoConstant m) (well_ty
   callable : (parametric_args : List DslxValue) → FitParametricArgs G owner [] f.parametrics parametric_args → G.is_sound (instance_of parametric_args) ≡ true → IsCallable G f name parametric_args
   callable parametric_args fit e =
       let bound = parametric_args_bound [] f.parametrics parametric_args in
-      let own = own_both [] none_bound f.parametrics parametric_args_alike parametric_args fit in
+      let own = own_both [] [] none_bound f.parametrics all_left parametric_args fit in
       let one = instance_has_value (F 1) (complete 1) (typed 1) f parametric_args own.0 (instance_well_typed 1 parametric_args e) in
       let two = instance_has_value (F 2) (complete 2) (typed 2) f parametric_args own.1 (instance_well_typed 2 parametric_args e) in
-      let same = same_some two.result one.result (sym two.typed ∙ sym (result_is 2 bound) ∙ result_is 1 bound ∙ one.typed) in
+      let same = same_some two.result one.result (sym two.typed ∙ sym (result_is 2 parametric_args) ∙ result_is 1 parametric_args ∙ one.typed) in
       let declared = carry one.result one.declared (subst (IsDeclared (types 2)) same two.declared) in
+      let operands_of = λ (operands : List DslxValue) (fits : FitArguments next (signature_at G owner parametric_args).arguments operands).
+      operands_from bound (bound_both parametric_args fit) [] f.arguments (arguments_well_typed parametric_args e) operands (subst (λ ts. FitArguments next ts operands) (arguments_are 1 parametric_args) fits) in
       record {
         result = one.result;
-        typed = result_is 1 bound ∙ one.typed;
+        typed = result_is 1 parametric_args ∙ one.typed;
         gives = λ given operands h fits.
-            let g = one.gives operands (operands_from bound (bound_both parametric_args fit) [] f.arguments arguments_alike (arguments_well_typed parametric_args e) operands fits) in
+            let g = one.gives operands (operands_of operands fits) in
             record { value = g.value; is = call_is parametric_args given operands e h ∙ g.is; of = g.of; declared = declared };
         sized = λ operands fits.
-            let n = one.sized operands (operands_from bound (bound_both parametric_args fit) [] f.arguments arguments_alike (arguments_well_typed parametric_args e) operands fits) in
+            let n = one.sized operands (operands_of operands fits) in
             (n.0, size_is parametric_args ∙ n.1);
       }
 
   pub function_next : IsFunctionKnown G name f
   function_next =
-      let both = parametric_args_known [] [] tt none_bound f.parametrics parametric_args_alike parts.parametrics in
+      let both = parametric_args_known [] [] [] tt none_bound f.parametrics all_left parts.parametrics in
       record {
         mean = both.0;
         parametrics = both.1;
-        arguments = λ parametric_args fit. arguments_known (parametric_args_bound [] f.parametrics parametric_args) (bound_both parametric_args fit) f.arguments arguments_alike;
+        arguments = λ parametric_args fit.
+            let bound = parametric_args_bound [] f.parametrics parametric_args in
+            subst (λ ts. EachArgumentDeclared next ts f.arguments) (sym (arguments_are 1 parametric_args))
+            (arguments_known bound (bound_both parametric_args fit) f.arguments (sym (arguments_are 1 parametric_args) ∙ arguments_are 2 parametric_args));
         calls = λ parametric_args fit e. callable parametric_args fit e;
       }

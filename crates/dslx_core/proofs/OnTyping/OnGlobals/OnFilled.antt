@@ -3,20 +3,16 @@ use Rattle.std.proofs.Common.{◌≡◌, ◌&&◌, ℕ, Bool, true, false, if◌
 use mathlib.Core.Bool.{true≢false}
 use Rattle.dslx_tree.specs.declared.item.Definition.{Definition}
 use Rattle.dslx_tree.specs.declared.item.Definition.TheVariants as d
-use Rattle.dslx_tree.specs.declared.item.Field.{Field}
 use Rattle.dslx_tree.specs.declared.item.Function.{Function}
 use Rattle.dslx_tree.specs.declared.item.Module.{Module}
-use Rattle.dslx_tree.specs.declared.item.Parametric.{Parametric}
-use Rattle.dslx_tree.specs.declared.type_expr.TypeExpr.{TypeExpr}
 use Rattle.dslx_meaning.specs.Items.{item_named}
-use Rattle.dslx_meaning.specs.Rules.CallRules.{Before, result_type}
 use Rattle.dslx_meaning.specs.Rules.TypeEnvs.{DefaultSeen, GlobalEnv}
 use Rattle.dslx_meaning.specs.Rules.Mentions.{Use, AsValue, AsPattern, AsType, AsFunction, AsProc, AsEnum, AsStruct, is_of_use}
 use Rattle.dslx_meaning.specs.Rules.ModuleRules.{globals_of}
 use Rattle.dslx_core.proofs.Lemmas.Typing.TypingRelations.{function_is, instances_reach, item_so_named, den_reach, whole_is}
-use Rattle.dslx_core.specs.Typing.Depends.Alike.{EachArgumentAlike, EachParametricAlike, FunctionAlike, UseAlike}
+use Rattle.dslx_core.specs.Typing.Depends.Alike.{FunctionAlike, UseAlike}
 use Rattle.dslx_core.proofs.Lemmas.Typing.Depends.{Stage, call_unknown, constant_unknown, member_unknown, no_enum, no_function, passes, passes_closed, pattern_use, struct_unknown, type_unknown}
-use Rattle.dslx_core.specs.Typing.GlobalEnv.Filled.{constant_filler, filled, filler_type, member_filler, refused, struct_filler}
+use Rattle.dslx_core.specs.Typing.GlobalEnv.Filled.{constant_filler, filled, filler_type, member_filler, nothing_typed, refused, struct_filler}
 
 -- what is known where a name passes, and what is filled in where it doesn't
 pub pass : {X : Type 0} (b : Bool) (x y : X) → b ≡ true → x ≡ (if b then x else y)
@@ -82,30 +78,13 @@ module _ (m : Module) (w k : ℕ) where
 
   function_alike : (f : Function) → P f.name.name ≡ true → FunctionAlike K F f
   function_alike f p = record {
-    parametrics = each_parametric f.parametrics;
-    arguments = each_argument f.arguments;
-    result = λ bound. by_result f.result bound;
+    declared = record {
+      parameter = λ before. pass (P f.name.name) (K.parameter_in f.name.name before) refused p;
+      default = λ before. pass (P f.name.name) (K.default_in f.name.name before) nothing_seen p;
+      signature = λ values. pass (P f.name.name) (K.signature_in f.name.name values) (nothing_typed (item_named f.name.name K.whole.items)) p;
+    };
     size = λ parametric_args. refl;
   }
-    where
-      each_parametric : (ps : List Parametric) → EachParametricAlike K F f.name.name ps
-      each_parametric [] = tt
-      each_parametric (q ∷ ps) = (
-        record {
-          ty = λ so_far unknown. pass (P f.name.name) (K.type_in f.name.name so_far unknown q.ty) None p;
-          seen = λ so_far. pass (P f.name.name) (K.type_seen_in f.name.name so_far q.ty) refused p;
-          default = λ so_far e x. pass (P f.name.name) (K.default_in f.name.name so_far e) nothing_seen p;
-        },
-        each_parametric ps,
-      )
-
-      each_argument : (fs : List Field) → EachArgumentAlike K F f.name.name fs
-      each_argument [] = tt
-      each_argument (x ∷ fs) = ((λ bound unknown. pass (P f.name.name) (K.type_in f.name.name bound unknown x.ty) None p), each_argument fs)
-
-      by_result : (o : Option TypeExpr) (bound : Before) → result_type K f.name.name bound o ≡ result_type F f.name.name bound o
-      by_result None bound = refl
-      by_result (Some t) bound = pass (P f.name.name) (K.type_in f.name.name bound.values bound.unknown t) None p
 
   used : (u : Use) (name : List ℕ) → P name ≡ true → UseAlike K F u name
   used AsValue name p = pass (P name) (K.items.constant name) (constant_filler w (item_of name)) p
@@ -161,6 +140,7 @@ module _ (m : Module) (w k : ℕ) where
     known = record {
       whole = refl;
       kinds = λ name. refl;
+      cyclic = λ owner name. refl;
       sound = λ i e. λ j. (sym e j) && K.is_sound i;
       unbroken = λ i e. λ j. (sym e j) && K.is_unbroken i;
     };

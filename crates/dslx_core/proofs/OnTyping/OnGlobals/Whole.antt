@@ -3,9 +3,7 @@ use Rattle.std.proofs.Common.{◌≡◌, ℕ, zero, suc, Bool, true, false, List
 use mathlib.Core.Bool.{true≢false}
 use Rattle.dslx_tree.specs.declared.item.Definition.{Definition}
 use Rattle.dslx_tree.specs.declared.item.Definition.TheVariants as d
-use Rattle.dslx_tree.specs.declared.item.Field.{Field}
 use Rattle.dslx_tree.specs.declared.item.Module.{Module}
-use Rattle.dslx_tree.specs.declared.item.Parametric.{Parametric}
 use Rattle.dslx_meaning.specs.Items.{as_enum, as_function, as_struct, is_constant_item, item_named}
 use Rattle.dslx_meaning.specs.Values.{type_of_value}
 use Rattle.dslx_meaning.specs.declared.ty.DslxType.{DslxType, Struct}
@@ -19,19 +17,19 @@ use Rattle.dslx_core.specs.Typing.Typed.Declared.{AllDeclared, Declarations, IsD
 use Rattle.dslx_core.specs.Typing.Typed.Given.{GivesOf}
 use Rattle.dslx_core.proofs.Lemmas.Typing.Typed.{none_some, same_some}
 use Rattle.dslx_core.proofs.Lemmas.Typing.TypingRelations.{function_is, instances_reach, den_reach, whole_is}
-use Rattle.dslx_core.specs.Typing.Depends.Alike.{EachArgumentAlike, EachParametricAlike, UseAlike}
+use Rattle.dslx_core.specs.Typing.Depends.Alike.{DeclaredAlike, UseAlike}
 use Rattle.dslx_core.specs.Typing.Depends.Settled.{BindsNoConstant}
 use Rattle.dslx_core.proofs.Lemmas.Typing.Depends as of
 use Rattle.dslx_core.proofs.Lemmas.Typing.Depends.{every_item_passes, passes, passes_closed}
 use Rattle.dslx_core.specs.Typing.Complete.HasValue.{AreTyped, DeclareMore}
 use Rattle.dslx_core.proofs.Lemmas.Typing.Complete.{declared_stays, gives_still}
-use Rattle.dslx_core.specs.Typing.GlobalEnv.Filled.{filled, filler_type, refused}
+use Rattle.dslx_core.specs.Typing.GlobalEnv.Filled.{filled, filler_type, nothing_typed, refused}
 use Rattle.dslx_core.specs.Typing.GlobalEnv.WellTypedParts.{EachItemWellTyped}
 use Rattle.dslx_core.specs.Typing.GlobalEnv.Passing.{PassingHaveValues}
 use Rattle.dslx_core.proofs.OnTyping.OnGlobals.Filling.{struct_item}
 use Rattle.dslx_core.proofs.OnTyping.OnGlobals.Next as of_next
 use Rattle.dslx_core.proofs.OnTyping.OnGlobals.Next.{constant_item, enum_item}
-use Rattle.dslx_core.proofs.OnTyping.OnGlobals.NextFunctions.{AlikeAt, function_next}
+use Rattle.dslx_core.proofs.OnTyping.OnGlobals.NextFunctions.{function_next}
 use Rattle.dslx_core.proofs.OnTyping.OnGlobals.OnFilled.{other, pass, stage_filled}
 
 no_constant_use : (o : Option Definition) → is_constant_item o ≡ false → is_of_use AsValue o ≡ false
@@ -72,11 +70,11 @@ module _ (m : Module) (free : HasNoCycle m) (plain : BindsNoConstant m) (well_ty
     functions = λ name f p e. absurd (true≢false (sym p));
   }
 
-  alike_filled : (w k : ℕ) (owner : List ℕ) → passes m k owner ≡ true → AlikeAt owner (filled w (passes m k) K) K
+  alike_filled : (w k : ℕ) (owner : List ℕ) → passes m k owner ≡ true → DeclaredAlike (filled w (passes m k) K) K owner
   alike_filled w k owner p = record {
-    ty = λ so_far t. sym (pass (passes m k owner) (K.type_in owner so_far [] t) None p);
-    seen = λ so_far t. sym (pass (passes m k owner) (K.type_seen_in owner so_far t) refused p);
-    default = λ so_far e. sym (pass (passes m k owner) (K.default_in owner so_far e) (record { judgement = refused; value = None }) p);
+    parameter = λ before. sym (pass (passes m k owner) (K.parameter_in owner before) refused p);
+    default = λ before. sym (pass (passes m k owner) (K.default_in owner before) (record { judgement = refused; value = None }) p);
+    signature = λ values. sym (pass (passes m k owner) (K.signature_in owner values) (nothing_typed (item_named owner K.whole.items)) p);
   }
 
   one_more : (k : ℕ) → ((w : ℕ) → PassingHaveValues w (passes m k) K) → (w : ℕ) → PassingHaveValues w (passes m (suc k)) K
@@ -155,21 +153,13 @@ module _ (m : Module) (free : HasNoCycle m) (plain : BindsNoConstant m) (well_ty
   all_stay [] h = tt
   all_stay (t ∷ ts) h = (stays t h.0, all_stay ts h.1)
 
-  each_same : (owner : List ℕ) (ps : List Parametric) → EachParametricAlike K K owner ps
-  each_same owner [] = tt
-  each_same owner (p ∷ ps) = (record { ty = λ so_far unknown. refl; seen = λ so_far. refl; default = λ so_far e q. refl }, each_same owner ps)
-
-  each_argument : (owner : List ℕ) (fs : List Field) → EachArgumentAlike K K owner fs
-  each_argument owner [] = tt
-  each_argument owner (f ∷ fs) = ((λ bound unknown. refl), each_argument owner fs)
-
   one_use : (u : Use) (name : List ℕ) → UseAlike K K u name
   one_use AsValue name = refl
   one_use AsPattern name = refl
   one_use AsType name = refl
   one_use AsFunction name = record {
     call = λ parametric_args operands. refl;
-    function = λ f e. record { parametrics = each_same f.name.name f.parametrics; arguments = each_argument f.name.name f.arguments; result = λ bound. refl; size = λ parametric_args. refl };
+    function = λ f e. record { declared = record { parameter = λ before. refl; default = λ before. refl; signature = λ values. refl }; size = λ parametric_args. refl };
   }
   one_use AsProc name = tt
   one_use AsEnum name = record { ty = λ e q. refl; members = λ member. refl }
@@ -178,7 +168,7 @@ module _ (m : Module) (free : HasNoCycle m) (plain : BindsNoConstant m) (well_ty
   stage_whole : (k : ℕ) → of.Stage (passes m k) m K K
   stage_whole k = record {
     text = text;
-    known = record { whole = refl; kinds = λ name. refl; sound = λ i e. refl; unbroken = λ i e. refl };
+    known = record { whole = refl; kinds = λ name. refl; cyclic = λ owner name. refl; sound = λ i e. refl; unbroken = λ i e. refl };
     uses = λ u name h. one_use u name;
     reach = λ ms h. den_reach (passes m k) m (passes_closed m k) (length m.items) ms h;
     reached = λ i h. instances_reach (passes m k) m (passes_closed m k) (length m.items) i h;
@@ -204,7 +194,7 @@ module _ (m : Module) (free : HasNoCycle m) (plain : BindsNoConstant m) (well_ty
         let here = every_item_passes m free name (d.Function f) is refl in
         function_next m free plain well_typed (length m.items) (stands (length m.items)) K (stage_whole (suc (length m.items))) (λ t one two. stays t one) name f is
         (of_next.more m free plain well_typed (length m.items) (stands (length m.items)) name here)
-        (record { ty = λ so_far t. refl; seen = λ so_far t. refl; default = λ so_far x. refl });
+        (record { parameter = λ before. refl; default = λ before. refl; signature = λ values. refl });
   }
 
   pub all_typed : AreTyped K

@@ -1,5 +1,5 @@
 -- Tuples, arrays and struct values, where nothing is wrong with them.
-use Rattle.std.proofs.Common.{◌≡◌, ◌++◌, ◌||◌, ℕ, Bool, true, false, if◌then◌else◌, length, List, [], ◌∷◌, map, Option, Some, None, refl, sym, ap, subst, ◌∙◌}
+use Rattle.std.proofs.Common.{◌≡◌, ◌++◌, ◌||◌, ℕ, zero, suc, Bool, true, false, if◌then◌else◌, length, List, [], ◌∷◌, map, Option, Some, None, refl, sym, ap, subst, ◌∙◌}
 use Rattle.std.specs.List.{list_all}
 use Rattle.xb_span.specs.declared.fault.Fault.{Fault}
 use Rattle.xb_span.specs.declared.span.Span.{Span}
@@ -15,11 +15,10 @@ use Rattle.dslx_meaning.specs.declared.ty.DslxType.{DslxType, out-DslxType}
 use Rattle.dslx_meaning.specs.declared.value.UntypedLiteral.{UntypedLiteral}
 use Rattle.dslx_meaning.specs.declared.value.DslxValue as value
 use Rattle.dslx_meaning.specs.declared.value.DslxValue.{DslxValue}
-use Rattle.dslx_meaning.specs.Rules.AggregateRules.{array_faults, array_in, element_alone, element_in, element_type, field_typing, first_type_of, has_twice, is_some_tuple, lacks_one, like_first, others_typing, pair_alone, part_type, range_faults, struct_if, struct_typing, struct_with, tuple_element_typing, tuple_typing, typed_array, unknown_fields, untyped_array, wanted_faults, when_all, written_fields}
+use Rattle.dslx_meaning.specs.Rules.AggregateRules.{array_faults, array_in, element_alone, element_in, element_type, field_typing, first_type_of, has_twice, is_some_tuple, lacks_one, like_first, others_typing, pair_alone, pair_or_alone, part_type, range_faults, struct_if, struct_typing, struct_with, tuple_element_typing, tuple_typing, typed_array, unknown_fields, untyped_array, wanted_faults, when_all, written_fields}
 use Rattle.dslx_meaning.specs.Rules.ConstantRules.{untyped_typing, is_empty}
 use Rattle.dslx_meaning.specs.Rules.TypeEnvs.{ExprPair, Judgement, TypeEnv, alone, untyped_of, breaks, breaks_if, faults_of_all, no_token, one_and, plus_size, reached_of_all, settled, size_of_all, span_of, types_of, within}
 use Rattle.dslx_meaning.specs.Rules.Typings.{FieldSeen, TypeExprTyping}
-use Rattle.dslx_meaning.specs.Rules.Mentions.{is_cyclic}
 use Rattle.dslx_meaning.specs.Rules.OperatorRules.{unless_type}
 use Rattle.dslx_meaning.specs.Rules.PatternRules.{is_there}
 use Rattle.dslx_meaning.specs.Rules.TypeRules.{unit_faults}
@@ -109,14 +108,19 @@ pair_has context env e x s h well_typed = by_type (within context e).ty well_typ
     by_type None f = s.gives context env h f
     by_type (Some t) f = by_test (is_some_tuple (out-DslxType t)) f
 
+taken_has : (k : ℕ) (context : TypeEnv) (env : Env) (e : ExprPair) (x : ExprDen) → ExprGives e x → IsWellTypedEnv context env → IsWellTypedPart context.known (pair_or_alone k context e) → HasTypedValue (types_at context) (pair_or_alone k context e) (x.value env)
+taken_has zero context env e x s h well_typed = pair_has context env e x s h well_typed
+taken_has (suc zero) context env e x s h well_typed = pair_has context env e x s h well_typed
+taken_has (suc (suc k)) context env e x s h well_typed = alone_has context env e x s h well_typed.faults well_typed.reached
+
 pub element_has : (span : Span) (context : TypeEnv) (env : Env) (e : ExprPair) (k : ℕ) (x : ExprDen) → ExprGives e x → IsWellTypedEnv context env → IsWellTypedPart context.known (tuple_element_typing span context e k)
     → HasTypedValue (types_at context) (tuple_element_typing span context e k) (and_then (x.value env) (λ v. element_value v k))
 element_has span context env e k x s h well_typed =
-    let a = pair_alone context e in
+    let a = pair_or_alone k context e in
     let wrong = unless_type (λ t. is_there (part_type t k)) 19 span a.ty in
     let q = settled_well_typed context.known span (and_then a.ty (λ t. part_type t k)) (a.faults ++ wrong) a.reached (one_and a.size) well_typed in
     let f = none_in a.faults wrong q.faults in
-    let g = pair_has context env e x s h (record { faults = f.0; reached = q.reached }) in
+    let g = taken_has k context env e x s h (record { faults = f.0; reached = q.reached }) in
     let t = there_known (part_type g.0 k) (unless_passed (λ t. is_there (part_type t k)) 19 span a.ty g.0 g.1 f.1) in
     let own = q.ty ∙ ap (λ o. and_then o (λ t. part_type t k)) g.1 ∙ t.1 in
     (t.0, own, tuple_part_given (types_at context) g.0 t.0 k (x.value env) g.2 t.1, sized_if _ t.0 (one_and a.size) own (one_sized a.size g.3))
@@ -265,7 +269,7 @@ struct_has span context env name fields ms others rest kf ko h well_typed = by_s
         other = others_typing context (Some S) others
 
         cyclic : List Fault
-        cyclic = breaks_if (is_cyclic context.known.whole context.owner name.name) 3 name.span
+        cyclic = breaks_if (context.known.is_cyclic context.owner name.name) 3 name.span
 
         names : List (List ℕ)
         names = map name_of_field declared.fields

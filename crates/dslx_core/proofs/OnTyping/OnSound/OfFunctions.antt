@@ -12,24 +12,23 @@ use Rattle.dslx_tree.specs.declared.item.Function.{Function}
 use Rattle.dslx_meaning.specs.Lists.{all_some, and_then, with_both}
 use Rattle.dslx_meaning.specs.Types.{same_type}
 use Rattle.dslx_meaning.specs.Values.{type_of_value}
-use Rattle.dslx_meaning.specs.Environment.{Env, Given}
+use Rattle.dslx_meaning.specs.Environment.{Env}
 use Rattle.dslx_meaning.specs.Inference.{Inferred}
-use Rattle.dslx_meaning.specs.Items.{all_parametric_args, as_function, inferred_from, item_named, parametric_args_bound}
+use Rattle.dslx_meaning.specs.Items.{all_parametric_args, as_function, inferred_from, item_named}
 use Rattle.dslx_meaning.specs.Meaning.{ExprDen, values_of}
 use Rattle.dslx_meaning.specs.declared.ty.DslxType.{DslxType}
 use Rattle.dslx_meaning.specs.declared.value.DslxValue.{DslxValue}
 use Rattle.dslx_meaning.specs.Rules.AggregateRules.{wanted_faults, when_all}
-use Rattle.dslx_meaning.specs.Rules.CallRules.{ParametricArgument, JudgedThere, ParametricArgsSeen, call_parametric_args, call_parts_faults, call_parts_reached, call_type, callee_size, declared_type, function_call, given_judgements, given_parametric_args, has_right_count, inferred_by, is_refused, typing_there, known_before, maybe_inferred, parametric_args_seen, operand_faults, reached_by, result_type, right_call, wrong_call}
+use Rattle.dslx_meaning.specs.Rules.CallRules.{Before, ParametricArgument, JudgedThere, ParametricArgsSeen, call_parametric_args, call_parts_faults, call_parts_reached, call_type, callee_size, function_call, given_judgements, given_parametric_args, has_right_count, inferred_by, is_refused, typing_there, known_before, maybe_inferred, parametric_args_seen, operand_faults, reached_by, right_call, signature_seen, wrong_call}
 use Rattle.dslx_meaning.specs.Rules.TypeEnvs.{ExprPair, Judgement, GlobalEnv, TypeEnv, all_alone, alone, breaks, breaks_if, faults_of_all, has_broken, one_and, plus_size, reached_of_all, size_of_all, span_of, types_of}
 use Rattle.dslx_meaning.specs.Rules.Typings.{ArgPair}
-use Rattle.dslx_meaning.specs.Rules.Mentions.{is_cyclic}
-use Rattle.dslx_core.specs.Typing.Typed.Complete.{EachArgumentDeclared, FitArguments, IsWellTypedPart}
+use Rattle.dslx_core.specs.Typing.Typed.Complete.{EachArgumentDeclared, FitArguments, IsWellTypedPart, signature_at}
 use Rattle.dslx_core.specs.Typing.Typed.Declared.{Declarations, IsDeclared}
 use Rattle.dslx_core.specs.Typing.Typed.Given.{GivesOf, IsSized}
 use Rattle.dslx_core.specs.Typing.Typed.Kinds.{is_of}
-use Rattle.dslx_core.specs.Typing.Typed.Numbers.{AllOwn, FitParametricArgs, GivenMean}
+use Rattle.dslx_core.specs.Typing.Typed.Numbers.{AllOwn, FitParametricArgs, GivenMean, values_behind}
 use Rattle.dslx_core.specs.Typing.Typed.WellTyped.{IsWellTypedEnv, types_at}
-use Rattle.dslx_core.proofs.Lemmas.Typing.Typed.{all_are, declared_is, inferred_alike, list_parts, parametric_args_found, one_of_text, one_type, same_some}
+use Rattle.dslx_core.proofs.Lemmas.Typing.Typed.{all_are, inferred_alike, list_parts, parametric_args_found, one_of_text, one_type, same_some}
 use Rattle.dslx_core.specs.Typing.Sound.Sound.{EachExprGives, HasTypedValue}
 use Rattle.dslx_core.proofs.OnTyping.OnSound.OfBuiltins.{wrongly_called}
 use Rattle.dslx_core.proofs.OnTyping.OnSound.OfParametricArgs.{EachGiven, NumbersWellTyped, typing_right, parametric_args_given, parametric_args_known}
@@ -65,28 +64,30 @@ operands_have context env h (e ∷ es) (x ∷ xs) k f r =
     }
 
 -- they are of the types of the arguments
-fit : (context : TypeEnv) (owner : List ℕ) (bound : List Given) (fs : List Field) (es : List ExprPair) (vs : List DslxValue) → EachArgumentDeclared context.known owner bound fs → length es ≡ length fs
-    → types_of (all_alone context es) ≡ map Some (map type_of_value vs) → AllOwn (types_at context) vs → operand_faults context.known owner (known_before bound) fs es (all_alone context es) ≡ [] → FitArguments context.known owner bound fs vs
-fit context owner bound [] [] [] known n typed own f = tt
-fit context owner bound [] [] (v ∷ vs) known n typed own f = some_fault (Some (type_of_value v)) (map Some (map type_of_value vs)) (sym typed)
-fit context owner bound [] (e ∷ es) vs known n typed own f = absurd (none_long n)
+fit : (context : TypeEnv) (ts : List (Option DslxType)) (fs : List Field) (es : List ExprPair) (vs : List DslxValue) → EachArgumentDeclared (types_at context) ts fs → length es ≡ length fs
+    → types_of (all_alone context es) ≡ map Some (map type_of_value vs) → AllOwn (types_at context) vs → operand_faults ts es (all_alone context es) ≡ [] → FitArguments (types_at context) ts vs
+fit context [] [] [] [] known n typed own f = tt
+fit context [] [] [] (v ∷ vs) known n typed own f = some_fault (Some (type_of_value v)) (map Some (map type_of_value vs)) (sym typed)
+fit context [] [] (e ∷ es) vs known n typed own f = absurd (none_long n)
   where
     none_long : suc (length es) ≡ 0 → ⊥
     none_long q = omega (arith, q)
-fit context owner bound (g ∷ fs) [] vs known n typed own f = absurd (none_long n)
+fit context [] (g ∷ fs) es vs known n typed own f = absurd known
+fit context (t ∷ ts) [] es vs known n typed own f = absurd known
+fit context (t ∷ ts) (g ∷ fs) [] vs known n typed own f = absurd (none_long n)
   where
     none_long : 0 ≡ suc (length fs) → ⊥
     none_long q = omega (arith, q)
-fit context owner bound (g ∷ fs) (e ∷ es) [] known n typed own f = some_fault (alone context e).ty (types_of (all_alone context es)) typed
-fit context owner bound (g ∷ fs) (e ∷ es) (v ∷ vs) known n typed own f =
-    let p = none_in (wanted_faults (span_of e) (declared_type context.known owner (known_before bound) g.ty) (alone context e).ty) (operand_faults context.known owner (known_before bound) fs es (all_alone context es)) f in
+fit context (t ∷ ts) (g ∷ fs) (e ∷ es) [] known n typed own f = some_fault (alone context e).ty (types_of (all_alone context es)) typed
+fit context (t ∷ ts) (g ∷ fs) (e ∷ es) (v ∷ vs) known n typed own f =
+    let p = none_in (wanted_faults (span_of e) t (alone context e).ty) (operand_faults ts es (all_alone context es)) f in
     let q = list_parts (alone context e).ty (Some (type_of_value v)) (types_of (all_alone context es)) (map Some (map type_of_value vs)) typed in
     let fewer : length es ≡ length fs = omega (arith, n) in (
-      (λ t d.
-          let same = passed (same_type t (type_of_value v)) 9 (span_of e) ((λ i. wanted_faults (span_of e) (sym d i) (sym q.0 i)) ∙ p.0) in
-          let one = one_of_text (types_at context) t (type_of_value v) same (known.0 t (declared_is context.known owner bound g.ty t d)) own.0.declared in
-          subst (λ u. GivesOf (types_at context) u (Some v)) (sym one) own.0),
-      fit context owner bound fs es vs known.1 fewer q.1 own.1 p.1,
+      (λ u d.
+          let same = passed (same_type u (type_of_value v)) 9 (span_of e) ((λ i. wanted_faults (span_of e) (sym d i) (sym q.0 i)) ∙ p.0) in
+          let one = one_of_text (types_at context) u (type_of_value v) same (known.0 u d) own.0.declared in
+          subst (λ x. GivesOf (types_at context) x (Some v)) (sym one) own.0),
+      fit context ts fs es vs known.1 fewer q.1 own.1 p.1,
     )
 
 -- nothing that is unknown might be inferred
@@ -108,7 +109,7 @@ pub record IsRight (known : GlobalEnv) (context : TypeEnv) (span : Span) (f : Fu
   pub operands_given : faults_of_all js ≡ []
   pub no_cycle : cyclic ≡ []
   pub right : n.is_wrong ≡ false
-  pub operands : (if n.is_wrong then [] else operand_faults context.known f.name.name n.bound f.arguments es js) ≡ []
+  pub operands : (if n.is_wrong then [] else operand_faults (signature_seen context.known f.name.name n).arguments es js) ≡ []
   pub parametric_args_reach : list_all known.is_sound (reached_of_all (given_judgements gs)) ≡ true
   pub operands_reach : list_all known.is_sound (reached_of_all js) ≡ true
   pub well_typed : NumbersWellTyped known n
@@ -120,7 +121,7 @@ pub right_well_typed : (known : GlobalEnv) (context : TypeEnv) (span : Span) (f 
 right_well_typed known context span f gs es js cyclic n well_typed =
     let parts = call_parts_faults gs js in
     let wrong = breaks_if n.is_wrong 10 span in
-    let misfits : List Fault = if n.is_wrong then [] else operand_faults context.known f.name.name n.bound f.arguments es js in
+    let misfits : List Fault = if n.is_wrong then [] else operand_faults (signature_seen context.known f.name.name n).arguments es js in
     let declared = typing_there cyclic n in
     let faults = ((((parts ++ cyclic) ++ n.faults) ++ declared.faults) ++ wrong) ++ misfits in
     let reach = reached_by (is_refused cyclic n) f.name.name n.values in
@@ -196,17 +197,18 @@ called span context env name f as' ns es xs cyclic kn kx h is count ts typed wel
         ((λ i. list_all context.known.is_sound (reached_by (has_broken (sym w.no_cycle i) || sym w.right i) owner (sym m.all i))) ∙ w.found) in
         let c = k.calls m.parametric_args m.fit sound.0 in
         let own : ts ≡ map type_of_value o.values = same_lists ts (map type_of_value o.values) (sym typed ∙ o.typed) in
-        let parametric_args = parametric_args_found context.known context.known.items owner inferred [] [] f.parametrics gs g.values m.parametric_args k.mean m.fit g.mean m.all in
+        let parametric_args = parametric_args_found context.known context.known.items owner inferred [] [] [] f.parametrics gs g.values m.parametric_args k.mean m.fit g.mean m.all in
         let same : inferred ≡ inferred_from f.arguments (map type_of_value o.values) = inferred_alike f.arguments ts ∙ ap (inferred_from f.arguments) own in
-        let fits = fit context owner (parametric_args_bound [] f.parametrics m.parametric_args) f.arguments es o.values (k.arguments m.parametric_args m.fit) count o.typed o.own
-        (ap (λ b. operand_faults context.known owner b f.arguments es js) (sym m.shown) ∙ ap (λ b. if◌then◌else◌ {A = List Fault} b [] (operand_faults context.known owner n.bound f.arguments es js)) (sym w.right) ∙ w.operands) in
+        let fits = fit context (signature_at context.known owner m.parametric_args).arguments f.arguments es o.values (k.arguments m.parametric_args m.fit) count o.typed o.own
+        (ap (λ (b : Before). operand_faults (context.known.signature_in owner b.values).arguments es js) (sym m.shown)
+        ∙ ap (λ b. if◌then◌else◌ {A = List Fault} b [] (operand_faults (signature_seen context.known owner n).arguments es js)) (sym w.right) ∙ w.operands) in
         let v = c.gives g.values o.values (ap (λ i. all_parametric_args context.known.items i [] f.parametrics g.values) (sym same) ∙ parametric_args) fits in
         let body = c.sized o.values fits in
         let callee = callee_size context.known owner n.values in
         let parts = one_sized (plus_size (size_of_all js) callee) (plus_sized (size_of_all js) callee o.sized (body.0, ap (callee_size context.known owner) m.all ∙ body.1)) in
-        let ty : (call []).ty ≡ Some c.result = w.own ∙ (λ i. and_then (m.all i) (λ vs. when_all (o.typed i) (result_type context.known owner n.bound f.result)))
-        ∙ ap (λ a. and_then a (λ us. result_type context.known owner n.bound f.result)) (all_are (map type_of_value o.values))
-        ∙ ap (λ b. result_type context.known owner b f.result) m.shown ∙ c.typed in
+        let ty : (call []).ty ≡ Some c.result = w.own ∙ (λ i. and_then (m.all i) (λ vs. when_all (o.typed i) (signature_seen context.known owner n).result))
+        ∙ ap (λ a. and_then a (λ us. (signature_seen context.known owner n).result)) (all_are (map type_of_value o.values))
+        ∙ ap (λ (b : Before). (context.known.signature_in owner b.values).result) m.shown ∙ c.typed in
         let denotation : with_both (values_of ns env) (values_of xs env) (env.items.call name) ≡ context.known.items.call name g.values o.values =
         (λ i. with_both (all_some (g.are i)) (all_some (o.are i)) ((h.items i).call name)) ∙ (λ i. with_both (all_are g.values i) (all_are o.values i) (context.known.items.call name)) in
         (c.result, ty, record { value = v.value; is = denotation ∙ v.is; of = v.of; declared = v.declared }, sized_if _ c.result (one_and (plus_size (size_of_all js) callee)) ty parts)
@@ -227,14 +229,14 @@ function_has span context env name as' ns es xs kn kx h well_typed = by_function
     Has j = HasTypedValue (types_at context) j (with_both (values_of ns env) (values_of xs env) (env.items.call name.name))
 
     right : Function → List (Option DslxType) → Judgement
-    right f ts = right_call span context f gs es js (breaks_if (is_cyclic context.known.whole context.owner name.name) 3 span) (call_parametric_args context.known f gs ts)
+    right f ts = right_call span context f gs es js (breaks_if (context.known.is_cyclic context.owner name.name) 3 span) (call_parametric_args context.known f gs ts)
 
     wrong : Judgement
-    wrong = wrong_call span gs js (breaks_if (is_cyclic context.known.whole context.owner name.name) 3 span)
+    wrong = wrong_call span gs js (breaks_if (context.known.is_cyclic context.owner name.name) 3 span)
 
     typed : (f : Function) → as_function (item_named name.name context.known.whole.items) ≡ Some f → length es ≡ length f.arguments → IsWellTypedPart context.known (right f (types_of js)) → Has (right f (types_of js))
     typed f is n g =
-        let cycle = breaks_if (is_cyclic context.known.whole context.owner name.name) 3 span in
+        let cycle = breaks_if (context.known.is_cyclic context.owner name.name) 3 span in
         let seen = call_parametric_args context.known f gs (types_of js) in
         let w = right_well_typed context.known context span f gs es js cycle seen g in
         let o = operands_have context env h es xs kx w.operands_given w.operands_reach in
@@ -242,7 +244,7 @@ function_has span context env name as' ns es xs kn kx h well_typed = by_function
 
     by_count : (f : Function) → as_function (item_named name.name context.known.whole.items) ≡ Some f → (b : Bool) → has_right_count f gs es ≡ b → IsWellTypedPart context.known (if b then right f (types_of js) else wrong)
         → Has (if b then right f (types_of js) else wrong)
-    by_count f is false q g = wrongly_called context.known span gs js (breaks_if (is_cyclic context.known.whole context.owner name.name) 3 span) g
+    by_count f is false q g = wrongly_called context.known span gs js (breaks_if (context.known.is_cyclic context.owner name.name) 3 span) g
     by_count f is true q g = typed f is ((Decides-eqb (length es) (length f.arguments)).0 (and_both (length es == length f.arguments) (not (nat_lt (length f.parametrics) (length gs))) q).0) g
 
     by_function : (o : Option Function) → as_function (item_named name.name context.known.whole.items) ≡ o → IsWellTypedPart context.known (function_call span context name gs es js o) → Has (function_call span context name gs es js o)
@@ -259,9 +261,9 @@ pub record CallFound (context : TypeEnv) (f : Function) (gs : List ParametricArg
   pub written : map (λ (g : ParametricArgument). g.seen.value) gs ≡ map Some given
   pub parametric_args : List DslxValue
   pub all : n.values ≡ Some parametric_args
-  pub shown : n.bound ≡ known_before (parametric_args_bound [] f.parametrics parametric_args)
+  pub shown : n.bound ≡ known_before (values_behind [] parametric_args)
   pub fit : FitParametricArgs context.known f.name.name [] f.parametrics parametric_args
-  pub arguments : EachArgumentDeclared context.known f.name.name (parametric_args_bound [] f.parametrics parametric_args) f.arguments
+  pub arguments : EachArgumentDeclared context.known.items.type_named (signature_at context.known f.name.name parametric_args).arguments f.arguments
   pub found : all_parametric_args context.known.items (inferred_from f.arguments ts) [] f.parametrics given ≡ Some parametric_args
 
 values_written : (types : Declarations) (gs : List ParametricArgument) (vs : List DslxValue) → EachGiven types gs → GivenMean gs vs → map (λ (g : ParametricArgument). g.seen.value) gs ≡ map Some vs
@@ -301,5 +303,5 @@ call_found span context env name f as' ns es cyclic kn h is ts well_typed = subs
           fit = m.fit;
           arguments = k.arguments m.parametric_args m.fit;
           found = ap (λ i. all_parametric_args context.known.items i [] f.parametrics g.values) (sym (inferred_alike f.arguments ts))
-              ∙ parametric_args_found context.known context.known.items f.name.name inferred [] [] f.parametrics gs g.values m.parametric_args k.mean m.fit g.mean m.all;
+              ∙ parametric_args_found context.known context.known.items f.name.name inferred [] [] [] f.parametrics gs g.values m.parametric_args k.mean m.fit g.mean m.all;
         }

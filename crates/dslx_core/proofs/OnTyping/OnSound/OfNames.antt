@@ -20,7 +20,7 @@ use Rattle.dslx_meaning.specs.declared.value.DslxValue.{DslxValue}
 use Rattle.dslx_meaning.specs.Rules.AggregateRules.{number_typing, range_faults}
 use Rattle.dslx_meaning.specs.Rules.TypeEnvs.{TypeEnv, breaks, breaks_if, settled, size_if_typed, typed_in}
 use Rattle.dslx_meaning.specs.Rules.Typings.{TypeExprTyping}
-use Rattle.dslx_meaning.specs.Rules.Mentions.{AsType, is_cyclic, is_of_use}
+use Rattle.dslx_meaning.specs.Rules.Mentions.{AsType, is_of_use}
 use Rattle.dslx_meaning.specs.Rules.NameRules.{has_member, item_value, local_or_other, member_typing, member_of, member_type, name_typing, parametric_or_item, end_or_other}
 use Rattle.dslx_core.specs.Typing.Typed.Complete.{IsWellTypedPart}
 use Rattle.dslx_core.specs.Typing.Typed.WellTyped.{IsWellTypedEnv, types_at}
@@ -38,7 +38,7 @@ name_known span context name env h well_typed = by_local (typed_in name context.
     by_item false q f = some_fault (breaks 1 span) [] (settled_well_typed context.known span None (breaks 1 span ∷ []) [] (Some 1) f).faults
     by_item true q f =
         let v = h.known.constants name q in
-        (type_of_value v.0, (settled_well_typed context.known span (option_map type_of_value (context.known.items.constant name)) (breaks_if (is_cyclic context.known.whole context.owner name) 3 span) [] (Some 1) f).ty ∙ ap (option_map type_of_value) v.1)
+        (type_of_value v.0, (settled_well_typed context.known span (option_map type_of_value (context.known.items.constant name)) (breaks_if (context.known.is_cyclic context.owner name) 3 span) [] (Some 1) f).ty ∙ ap (option_map type_of_value) v.1)
 
     by_globals : (b : Bool) → is_in name context.unknown ≡ b → IsWellTypedPart context.known (if b then settled span None [] [] (Some 1) else item_value span context name (context.known.items.is_constant name))
         → (t : DslxType) × ((if b then settled span None [] [] (Some 1) else item_value span context name (context.known.items.is_constant name)).ty ≡ Some t)
@@ -116,7 +116,7 @@ member_known context e a env h none = by_enum (as_enum (item_named e.name contex
     by_enum : (o : Option Enum) → as_enum (item_named e.name context.known.whole.items) ≡ o → (member_of context e a o).faults ≡ [] → (t : DslxType) × ((member_of context e a o).ty ≡ Some t)
     by_enum None q f = some_fault (breaks 1 e.span) [] f
     by_enum (Some declared) q f =
-        let cyclic = breaks_if (is_cyclic context.known.whole context.owner e.name) 3 e.span in
+        let cyclic = breaks_if (context.known.is_cyclic context.owner e.name) 3 e.span in
         let lacks = breaks_if (not (has_member declared a.name)) 1 a.span in
         let t = member_typed context e a env h declared q (passed (has_member declared a.name) 1 a.span (none_in cyclic lacks f).1) in
         (t.0, unlimited_type (member_type context e a) (cyclic ++ lacks) [] (Some 1) f ∙ t.1)

@@ -6,20 +6,18 @@ use Rattle.xb_span.specs.declared.fault.Fault.{Fault}
 use Rattle.xb_span.specs.declared.span.Span.{Span}
 use Rattle.dslx_tree.specs.declared.expr.Expr.{Expr, out-Expr}
 use Rattle.dslx_tree.specs.declared.item.Parametric.{Parametric}
-use Rattle.dslx_tree.specs.declared.type_expr.TypeExpr.{TypeExpr}
 use Rattle.dslx_meaning.specs.Lists.{and_then}
 use Rattle.dslx_meaning.specs.Types.{is_unit, same_type}
 use Rattle.dslx_meaning.specs.Values.{type_of_value}
-use Rattle.dslx_meaning.specs.Environment.{Env, Given}
+use Rattle.dslx_meaning.specs.Environment.{Env}
 use Rattle.dslx_meaning.specs.Inference.{Inferred}
-use Rattle.dslx_meaning.specs.Items.{parametric_args_bound, with_number}
 use Rattle.dslx_meaning.specs.Meaning.{ExprDen}
 use Rattle.dslx_meaning.specs.Operators.{number_value}
 use Rattle.dslx_meaning.specs.declared.ty.DslxType.{DslxType}
 use Rattle.dslx_meaning.specs.declared.value.UntypedLiteral.{UntypedLiteral}
 use Rattle.dslx_meaning.specs.declared.value.DslxValue.{DslxValue}
 use Rattle.dslx_meaning.specs.Rules.AggregateRules.{wanted_faults}
-use Rattle.dslx_meaning.specs.Rules.CallRules.{ParametricArgument, Number, ParametricArgsSeen, Resolved, JudgedThere, Wrong, and_parametric, and_there, declared_type, default_value, given_judgements, given_parametric_args, in_type, is_wrong_parametric, typing_there, known_before, not_given, nothing_there, number_before, parametric_args_for, parametric_args_seen, of_type, resolved_value, type_there, value_before}
+use Rattle.dslx_meaning.specs.Rules.CallRules.{ParametricArgument, Number, ParametricArgsSeen, Resolved, JudgedThere, Wrong, and_parametric, and_there, parametric_type, default_value, given_judgements, given_parametric_args, in_type, is_wrong_parametric, typing_there, known_before, not_given, nothing_there, number_before, parametric_args_for, parametric_args_seen, of_type, resolved_value, type_there, value_before}
 use Rattle.dslx_meaning.specs.Rules.ConstantRules.{constant_of}
 use Rattle.dslx_meaning.specs.Rules.TypeEnvs.{GlobalEnv, TypeEnv, faults_of_all, has_broken, reached_of_all}
 use Rattle.dslx_meaning.specs.Rules.Typings.{ArgPair}
@@ -27,9 +25,9 @@ use Rattle.dslx_meaning.specs.Rules.PatternRules.{is_there}
 use Rattle.dslx_core.specs.Typing.Typed.Complete.{EachParametricKnown, IsWellTypedPart, IsParametricKnown, IsTypeKnown}
 use Rattle.dslx_core.specs.Typing.Typed.Declared.{Declarations}
 use Rattle.dslx_core.specs.Typing.Typed.Given.{GivesOf}
-use Rattle.dslx_core.specs.Typing.Typed.Numbers.{FitParametricArgs, GivenMean}
+use Rattle.dslx_core.specs.Typing.Typed.Numbers.{FitParametricArgs, GivenMean, values_behind}
 use Rattle.dslx_core.specs.Typing.Typed.WellTyped.{IsWellTypedEnv, types_at}
-use Rattle.dslx_core.proofs.Lemmas.Typing.Typed.{declared_is, none_some, number_given, one_type, one_of_text, or_false, own_value, same_some}
+use Rattle.dslx_core.proofs.Lemmas.Typing.Typed.{parametric_is, none_some, number_given, one_type, one_of_text, or_false, own_value, same_some}
 use Rattle.dslx_core.specs.Typing.Sound.Sound.{EachExprGives}
 use Rattle.dslx_core.proofs.OnTyping.OnSound.OfConstants.{constant_has}
 use Rattle.dslx_core.proofs.OnTyping.OnSound.WellTypedParts.{all_in, none_in, passed}
@@ -39,32 +37,32 @@ use Rattle.dslx_core.proofs.OnTyping.OnSound.WellTypedParts.{all_in, none_in, pa
 abbrev declared_if : Bool → DslxType → Option DslxType
 declared_if b t = if b then None else Some t
 
-declared_known : (known : GlobalEnv) (owner : List ℕ) (so_far : List Given) (p : TypeExpr) → IsTypeKnown (known.type_in owner so_far [] p) → (t : DslxType) × (declared_type known owner (known_before so_far) p ≡ Some t)
-declared_known known owner so_far p k = (k.0, ap (λ o. and_then o (λ t. declared_if (is_unit t) t)) k.1 ∙ ap (λ b. declared_if b k.0) k.2)
+type_is_known : (known : GlobalEnv) (owner : List ℕ) (before : List (Option DslxValue)) → IsTypeKnown (known.parameter_in owner before).ty → (t : DslxType) × (parametric_type known owner (known_before before) ≡ Some t)
+type_is_known known owner before k = (k.0, ap (λ o. and_then o (λ t. declared_if (is_unit t) t)) k.1 ∙ ap (λ b. declared_if b k.0) k.2)
 
 -- a parameter whose type is unknown
-untyped : {X : Type 0} (known : GlobalEnv) (owner : List ℕ) (so_far : List Given) (p : Parametric) → IsParametricKnown known owner so_far p → declared_type known owner (known_before so_far) p.ty ≡ None
-    → IsWellTypedPart known (known.type_seen_in owner so_far p.ty) → X
-untyped known owner so_far p k q well_typed =
-    let t = declared_known known owner so_far p.ty (k.typed well_typed) in
+untyped : {X : Type 0} (known : GlobalEnv) (owner : List ℕ) (before : List (Option DslxValue)) (p : Parametric) → IsParametricKnown known owner before p → parametric_type known owner (known_before before) ≡ None
+    → IsWellTypedPart known (known.parameter_in owner before) → X
+untyped known owner before p k q well_typed =
+    let t = type_is_known known owner before (k.typed well_typed) in
     none_some t.0 (sym q ∙ t.1)
 
 -- the value of a parameter, of the type that is known of it
-record Found (known : GlobalEnv) (owner : List ℕ) (so_far : List Given) (p : Parametric) (r : Resolved) : Type 0 where
+record Found (known : GlobalEnv) (owner : List ℕ) (before : List (Option DslxValue)) (r : Resolved) : Type 0 where
   value : DslxValue
   is : r ≡ Number value
   ty : DslxType
-  typed : declared_type known owner (known_before so_far) p.ty ≡ Some ty
+  typed : parametric_type known owner (known_before before) ≡ Some ty
   gives : GivesOf known.items.type_named ty (Some value)
 
 -- a value of the type of its parameter
-resolved_given : (known : GlobalEnv) (owner : List ℕ) (so_far : List Given) (p : Parametric) → IsParametricKnown known owner so_far p → (span : Span) (v : DslxValue) → GivesOf known.items.type_named (type_of_value v) (Some v)
-    → (o : Option DslxType) → declared_type known owner (known_before so_far) p.ty ≡ o → IsWellTypedPart known (known.type_seen_in owner so_far p.ty) → wanted_faults span o (Some (type_of_value v)) ≡ []
-    → Found known owner so_far p (resolved_value (of_type o (Some v)))
-resolved_given known owner so_far p k span v own None q well_typed wanted = untyped known owner so_far p k q well_typed
-resolved_given known owner so_far p k span v own (Some t) q well_typed wanted =
+resolved_given : (known : GlobalEnv) (owner : List ℕ) (before : List (Option DslxValue)) (p : Parametric) → IsParametricKnown known owner before p → (span : Span) (v : DslxValue) → GivesOf known.items.type_named (type_of_value v) (Some v)
+    → (o : Option DslxType) → parametric_type known owner (known_before before) ≡ o → IsWellTypedPart known (known.parameter_in owner before) → wanted_faults span o (Some (type_of_value v)) ≡ []
+    → Found known owner before (resolved_value (of_type o (Some v)))
+resolved_given known owner before p k span v own None q well_typed wanted = untyped known owner before p k q well_typed
+resolved_given known owner before p k span v own (Some t) q well_typed wanted =
     let same = passed (same_type t (type_of_value v)) 9 span wanted in
-    let one = one_of_text known.items.type_named t (type_of_value v) same (k.declared t (declared_is known owner so_far p.ty t q)) own.declared in
+    let one = one_of_text known.items.type_named t (type_of_value v) same (k.declared t (parametric_is known owner before t q)) own.declared in
     record {
       value = v;
       is = ap (λ b. resolved_value (if b then Some v else None)) same;
@@ -79,42 +77,42 @@ abbrev or_wrong : Option DslxValue → Resolved
 or_wrong None = Wrong
 or_wrong (Some v) = Number v
 
-number_in_type : (known : GlobalEnv) (owner : List ℕ) (so_far : List Given) (p : Parametric) → IsParametricKnown known owner so_far p → (n : ℕ) (o : Option DslxType) → declared_type known owner (known_before so_far) p.ty ≡ o
-    → IsWellTypedPart known (known.type_seen_in owner so_far p.ty) → is_wrong_parametric (in_type o n) ≡ false → Found known owner so_far p (in_type o n)
-number_in_type known owner so_far p k n None q well_typed right = untyped known owner so_far p k q well_typed
-number_in_type known owner so_far p k n (Some t) q well_typed right = by_value (number_value t number) refl right
+number_in_type : (known : GlobalEnv) (owner : List ℕ) (before : List (Option DslxValue)) (p : Parametric) → IsParametricKnown known owner before p → (n : ℕ) (o : Option DslxType) → parametric_type known owner (known_before before) ≡ o
+    → IsWellTypedPart known (known.parameter_in owner before) → is_wrong_parametric (in_type o n) ≡ false → Found known owner before (in_type o n)
+number_in_type known owner before p k n None q well_typed right = untyped known owner before p k q well_typed
+number_in_type known owner before p k n (Some t) q well_typed right = by_value (number_value t number) refl right
   where
     number : UntypedLiteral
     number = record { is_negative = false; value = n }
 
-    by_value : (o : Option DslxValue) → number_value t number ≡ o → is_wrong_parametric (or_wrong o) ≡ false → Found known owner so_far p (or_wrong o)
+    by_value : (o : Option DslxValue) → number_value t number ≡ o → is_wrong_parametric (or_wrong o) ≡ false → Found known owner before (or_wrong o)
     by_value None r e = absurd (true≢false e)
     by_value (Some v) r e =
-        let d = k.declared t (declared_is known owner so_far p.ty t q) in
+        let d = k.declared t (parametric_is known owner before t q) in
         record { value = v; is = refl; ty = t; typed = q; gives = subst (GivesOf known.items.type_named t) r (number_given known.items.type_named t number (ap is_there r) d) }
 
-found_default : (known : GlobalEnv) (owner : List ℕ) (so_far : List Given) (p : Parametric) → IsParametricKnown known owner so_far p → (o : Option DslxType) → declared_type known owner (known_before so_far) p.ty ≡ o → (e : Option Expr) → p.default ≡ e
-    → IsWellTypedPart known (known.type_seen_in owner so_far p.ty) → (default_value known owner (known_before so_far) o e).typing.faults ≡ []
-    → list_all known.is_sound (default_value known owner (known_before so_far) o e).typing.reached ≡ true → is_wrong_parametric (default_value known owner (known_before so_far) o e).value ≡ false
-    → Found known owner so_far p (default_value known owner (known_before so_far) o e).value
-found_default known owner so_far p k o q None is well_typed f r right = absurd (true≢false right)
-found_default known owner so_far p k o q (Some e) is well_typed f r right =
-    let seen = known.default_in owner so_far e in
+found_default : (known : GlobalEnv) (owner : List ℕ) (before : List (Option DslxValue)) (p : Parametric) → IsParametricKnown known owner before p → (o : Option DslxType) → parametric_type known owner (known_before before) ≡ o → (e : Option Expr) → p.default ≡ e
+    → IsWellTypedPart known (known.parameter_in owner before) → (default_value known owner (known_before before) o e).typing.faults ≡ []
+    → list_all known.is_sound (default_value known owner (known_before before) o e).typing.reached ≡ true → is_wrong_parametric (default_value known owner (known_before before) o e).value ≡ false
+    → Found known owner before (default_value known owner (known_before before) o e).value
+found_default known owner before p k o q None is well_typed f r right = absurd (true≢false right)
+found_default known owner before p k o q (Some e) is well_typed f r right =
+    let seen = known.default_in owner before in
     let span = (out-Expr e).span in
     let s = none_in seen.judgement.faults (wanted_faults span o seen.judgement.ty) f in
     let d = k.default e is (record { faults = s.0; reached = r }) in
-    let found = resolved_given known owner so_far p k span d.value d.own o q well_typed (ap (wanted_faults span o) (sym d.typed) ∙ s.1) in
+    let found = resolved_given known owner before p k span d.value d.own o q well_typed (ap (wanted_faults span o) (sym d.typed) ∙ s.1) in
     record { value = found.value; is = ap (λ v. resolved_value (of_type o v)) d.is ∙ found.is; ty = found.ty; typed = found.typed; gives = found.gives }
 
-found_otherwise : (known : GlobalEnv) (owner : List ℕ) (so_far : List Given) (p : Parametric) → IsParametricKnown known owner so_far p → (o : Option DslxType) → declared_type known owner (known_before so_far) p.ty ≡ o → (ns : List ℕ)
-    → IsWellTypedPart known (known.type_seen_in owner so_far p.ty) → (not_given known owner (known_before so_far) p o false ns).typing.faults ≡ []
-    → list_all known.is_sound (not_given known owner (known_before so_far) p o false ns).typing.reached ≡ true → is_wrong_parametric (not_given known owner (known_before so_far) p o false ns).value ≡ false
-    → Found known owner so_far p (not_given known owner (known_before so_far) p o false ns).value
-found_otherwise known owner so_far p k o q [] well_typed f r right = found_default known owner so_far p k o q p.default refl well_typed f r right
-found_otherwise known owner so_far p k o q (n ∷ ns) well_typed f r right = by_one (list_all (λ k. k == n) ns) right
+found_otherwise : (known : GlobalEnv) (owner : List ℕ) (before : List (Option DslxValue)) (p : Parametric) → IsParametricKnown known owner before p → (o : Option DslxType) → parametric_type known owner (known_before before) ≡ o → (ns : List ℕ)
+    → IsWellTypedPart known (known.parameter_in owner before) → (not_given known owner (known_before before) p o false ns).typing.faults ≡ []
+    → list_all known.is_sound (not_given known owner (known_before before) p o false ns).typing.reached ≡ true → is_wrong_parametric (not_given known owner (known_before before) p o false ns).value ≡ false
+    → Found known owner before (not_given known owner (known_before before) p o false ns).value
+found_otherwise known owner before p k o q [] well_typed f r right = found_default known owner before p k o q p.default refl well_typed f r right
+found_otherwise known owner before p k o q (n ∷ ns) well_typed f r right = by_one (list_all (λ k. k == n) ns) right
   where
-    by_one : (b : Bool) → is_wrong_parametric (if b then in_type o n else Wrong) ≡ false → Found known owner so_far p (if b then in_type o n else Wrong)
-    by_one true e = number_in_type known owner so_far p k n o q well_typed e
+    by_one : (b : Bool) → is_wrong_parametric (if b then in_type o n else Wrong) ≡ false → Found known owner before (if b then in_type o n else Wrong)
+    by_one true e = number_in_type known owner before p k n o q well_typed e
     by_one false e = absurd (true≢false e)
 
 -- ---- all parameters
@@ -130,11 +128,11 @@ abbrev pub EachGiven : Declarations → List ParametricArgument → Type 0
 EachGiven types [] = Unit {0}
 EachGiven types (g ∷ gs) = IsGiven types g × EachGiven types gs
 
-pub record ParametricArgsKnown (known : GlobalEnv) (owner : List ℕ) (n : ParametricArgsSeen) (so_far : List Given) (ps : List Parametric) : Type 0 where
+pub record ParametricArgsKnown (known : GlobalEnv) (owner : List ℕ) (n : ParametricArgsSeen) (before : List (Option DslxValue)) (ps : List Parametric) : Type 0 where
   pub parametric_args : List DslxValue
-  pub fit : FitParametricArgs known owner so_far ps parametric_args
+  pub fit : FitParametricArgs known owner before ps parametric_args
   pub all : n.values ≡ Some parametric_args
-  pub shown : n.bound ≡ known_before (parametric_args_bound so_far ps parametric_args)
+  pub shown : n.bound ≡ known_before (values_behind before parametric_args)
 
 -- what is given breaks no rule, nor does what is judged of the other declaration, and all that it reaches is sound
 pub record NumbersWellTyped (known : GlobalEnv) (n : ParametricArgsSeen) : Type 0 where
@@ -148,18 +146,18 @@ pub typing_right : (cyclic : List Fault) (n : ParametricArgsSeen) → cyclic ≡
 typing_right cyclic n no_cycle right = λ i. if (has_broken (no_cycle i) || right i) then nothing_there else n.declared
 
 -- a parameter that has a value, and those behind it
-behind_number : (known : GlobalEnv) (owner : List ℕ) (inferred : List Inferred) (so_far : List Given) (p : Parametric) (ps : List Parametric) (gs : List ParametricArgument) (r : Resolved) (v : DslxValue) (t : DslxType) (faults : List Fault) (typing : JudgedThere)
-    → r ≡ Number v → declared_type known owner (known_before so_far) p.ty ≡ Some t → GivesOf known.items.type_named t (Some v)
-    → (NumbersWellTyped known (parametric_args_seen known owner inferred [] (known_before (with_number so_far p v)) ps gs) → ParametricArgsKnown known owner (parametric_args_seen known owner inferred [] (known_before (with_number so_far p v)) ps gs) (with_number so_far p v) ps)
-    → NumbersWellTyped known (number_before r faults typing (parametric_args_seen known owner inferred [] (and_parametric (known_before so_far) p r) ps gs))
-    → ParametricArgsKnown known owner (number_before r faults typing (parametric_args_seen known owner inferred [] (and_parametric (known_before so_far) p r) ps gs)) so_far (p ∷ ps)
-behind_number known owner inferred so_far p ps gs r v t faults typing e typed gives more = subst Behind (sym e) at_number
+behind_number : (known : GlobalEnv) (owner : List ℕ) (inferred : List Inferred) (before : List (Option DslxValue)) (p : Parametric) (ps : List Parametric) (gs : List ParametricArgument) (r : Resolved) (v : DslxValue) (t : DslxType) (faults : List Fault) (typing : JudgedThere)
+    → r ≡ Number v → parametric_type known owner (known_before before) ≡ Some t → GivesOf known.items.type_named t (Some v)
+    → (NumbersWellTyped known (parametric_args_seen known owner inferred [] (known_before (Some v ∷ before)) ps gs) → ParametricArgsKnown known owner (parametric_args_seen known owner inferred [] (known_before (Some v ∷ before)) ps gs) (Some v ∷ before) ps)
+    → NumbersWellTyped known (number_before r faults typing (parametric_args_seen known owner inferred [] (and_parametric (known_before before) r) ps gs))
+    → ParametricArgsKnown known owner (number_before r faults typing (parametric_args_seen known owner inferred [] (and_parametric (known_before before) r) ps gs)) before (p ∷ ps)
+behind_number known owner inferred before p ps gs r v t faults typing e typed gives more = subst Behind (sym e) at_number
   where
     rest : Resolved → ParametricArgsSeen
-    rest r = parametric_args_seen known owner inferred [] (and_parametric (known_before so_far) p r) ps gs
+    rest r = parametric_args_seen known owner inferred [] (and_parametric (known_before before) r) ps gs
 
     Behind : Resolved → Type 0
-    Behind r = NumbersWellTyped known (number_before r faults typing (rest r)) → ParametricArgsKnown known owner (number_before r faults typing (rest r)) so_far (p ∷ ps)
+    Behind r = NumbersWellTyped known (number_before r faults typing (rest r)) → ParametricArgsKnown known owner (number_before r faults typing (rest r)) before (p ∷ ps)
 
     at_number : Behind (Number v)
     at_number f =
@@ -172,31 +170,31 @@ behind_number known owner inferred so_far p ps gs r v t faults typing e typed gi
         }) in
         record { parametric_args = v ∷ k.parametric_args; fit = ((t, typed, gives), k.fit); all = ap (value_before (Number v)) k.all; shown = k.shown }
 
-pub parametric_args_known : (known : GlobalEnv) (owner : List ℕ) (inferred : List Inferred) (so_far : List Given) (ps : List Parametric) (gs : List ParametricArgument) → EachParametricKnown known owner so_far ps → EachGiven known.items.type_named gs
-    → NumbersWellTyped known (parametric_args_seen known owner inferred [] (known_before so_far) ps gs) → ParametricArgsKnown known owner (parametric_args_seen known owner inferred [] (known_before so_far) ps gs) so_far ps
-parametric_args_known known owner inferred so_far [] [] c k f = record { parametric_args = []; fit = tt; all = refl; shown = refl }
-parametric_args_known known owner inferred so_far [] (g ∷ gs) c k f = absurd (true≢false f.right)
-parametric_args_known known owner inferred so_far (p ∷ ps) (g ∷ gs) c k f =
-    let t = declared_type known owner (known_before so_far) p.ty in
+pub parametric_args_known : (known : GlobalEnv) (owner : List ℕ) (inferred : List Inferred) (before : List (Option DslxValue)) (ps : List Parametric) (gs : List ParametricArgument) → EachParametricKnown known owner before ps → EachGiven known.items.type_named gs
+    → NumbersWellTyped known (parametric_args_seen known owner inferred [] (known_before before) ps gs) → ParametricArgsKnown known owner (parametric_args_seen known owner inferred [] (known_before before) ps gs) before ps
+parametric_args_known known owner inferred before [] [] c k f = record { parametric_args = []; fit = tt; all = refl; shown = refl }
+parametric_args_known known owner inferred before [] (g ∷ gs) c k f = absurd (true≢false f.right)
+parametric_args_known known owner inferred before (p ∷ ps) (g ∷ gs) c k f =
+    let t = parametric_type known owner (known_before before) in
     let v = resolved_value (of_type t g.seen.value) in
-    let written = known.type_seen_in owner so_far p.ty in
-    let rest = parametric_args_seen known owner inferred [] (and_parametric (known_before so_far) p v) ps gs in
+    let written = known.parameter_in owner before in
+    let rest = parametric_args_seen known owner inferred [] (and_parametric (known_before before) v) ps gs in
     let wanted = wanted_faults g.span t g.seen.judgement.ty in
     let well_typed : IsWellTypedPart known written = record { faults = (none_in written.faults rest.declared.faults f.declared).0; reached = (all_in known.is_sound written.reached rest.declared.reached f.reached).0 } in
-    let found = resolved_given known owner so_far p c.0 g.span k.0.value k.0.own t refl well_typed (ap (wanted_faults g.span t) (sym k.0.typed) ∙ (none_in wanted rest.faults f.given).0) in
-    behind_number known owner inferred so_far p ps gs v found.value found.ty wanted (type_there known owner (known_before so_far) p) (ap (λ o. resolved_value (of_type t o)) k.0.is ∙ found.is) found.typed found.gives
-    (parametric_args_known known owner inferred (with_number so_far p found.value) ps gs (c.1 found.ty found.value found.typed found.gives) k.1) f
-parametric_args_known known owner inferred so_far (p ∷ ps) [] c k f =
-    let t = declared_type known owner (known_before so_far) p.ty in
-    let v = not_given known owner (known_before so_far) p t false (parametric_args_for p.name.name inferred) in
-    let written = known.type_seen_in owner so_far p.ty in
-    let rest = parametric_args_seen known owner inferred [] (and_parametric (known_before so_far) p v.value) ps [] in
+    let found = resolved_given known owner before p c.0 g.span k.0.value k.0.own t refl well_typed (ap (wanted_faults g.span t) (sym k.0.typed) ∙ (none_in wanted rest.faults f.given).0) in
+    behind_number known owner inferred before p ps gs v found.value found.ty wanted (type_there known owner (known_before before)) (ap (λ o. resolved_value (of_type t o)) k.0.is ∙ found.is) found.typed found.gives
+    (parametric_args_known known owner inferred (Some found.value ∷ before) ps gs (c.1 found.ty found.value found.typed found.gives) k.1) f
+parametric_args_known known owner inferred before (p ∷ ps) [] c k f =
+    let t = parametric_type known owner (known_before before) in
+    let v = not_given known owner (known_before before) p t false (parametric_args_for p.name.name inferred) in
+    let written = known.parameter_in owner before in
+    let rest = parametric_args_seen known owner inferred [] (and_parametric (known_before before) v.value) ps [] in
     let q = none_in written.faults v.typing.faults (none_in (written.faults ++ v.typing.faults) rest.declared.faults f.declared).0 in
     let s = all_in known.is_sound written.reached v.typing.reached (all_in known.is_sound (written.reached ++ v.typing.reached) rest.declared.reached f.reached).0 in
     let right = or_false (is_wrong_parametric v.value) rest.is_wrong f.right in
-    let found = found_otherwise known owner so_far p c.0 t refl (parametric_args_for p.name.name inferred) (record { faults = q.0; reached = s.0 }) q.1 s.1 right.0 in
-    behind_number known owner inferred so_far p ps [] v.value found.value found.ty [] (and_there (type_there known owner (known_before so_far) p) v.typing) found.is found.typed found.gives
-    (parametric_args_known known owner inferred (with_number so_far p found.value) ps [] (c.1 found.ty found.value found.typed found.gives) tt) f
+    let found = found_otherwise known owner before p c.0 t refl (parametric_args_for p.name.name inferred) (record { faults = q.0; reached = s.0 }) q.1 s.1 right.0 in
+    behind_number known owner inferred before p ps [] v.value found.value found.ty [] (and_there (type_there known owner (known_before before)) v.typing) found.is found.typed found.gives
+    (parametric_args_known known owner inferred (Some found.value ∷ before) ps [] (c.1 found.ty found.value found.typed found.gives) tt) f
 
 -- ---- parametric arguments that are written
 

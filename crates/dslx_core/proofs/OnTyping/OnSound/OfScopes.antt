@@ -17,7 +17,7 @@ use Rattle.dslx_meaning.specs.declared.ty.DslxType.{DslxType}
 use Rattle.dslx_meaning.specs.declared.value.UntypedLiteral.{UntypedLiteral}
 use Rattle.dslx_meaning.specs.declared.value.DslxValue.{DslxValue}
 use Rattle.dslx_meaning.specs.Rules.AggregateRules.{number_typing, range_faults}
-use Rattle.dslx_meaning.specs.Rules.ConstantRules.{ConstantSeen, CountSeen, untyped_typing, constant_of, count_faults, count_number, count_of, count_type_faults, count_with, names_a_local, number_of_value, size_faults}
+use Rattle.dslx_meaning.specs.Rules.ConstantRules.{ConstantSeen, CountSeen, untyped_typing, constant_of, count_faults, count_number, count_of, count_type_faults, count_with, names_a_bound, names_a_local, names_a_member, number_of_value, size_faults}
 use Rattle.dslx_meaning.specs.Rules.TypeEnvs.{ExprPair, Judgement, TypeEnv, Typed, alone, untyped_of, breaks_if, faults_of_all, reached_of_all, settled, span_of, types_of}
 use Rattle.dslx_meaning.specs.Rules.Typings.{PatternPair, TypeExprTyping, TypePair}
 use Rattle.dslx_meaning.specs.Rules.Mentions.{AsType, free_names, is_of_use, mentioned}
@@ -67,7 +67,7 @@ count_alike context a b e x is h well_typed = subst (λ (y : ExprDen). size_of y
         let local = breaks_if (names_a_local context e) 5 (span_of e) in
         let size = size_faults context.known (span_of e).to (record j { faults = j.faults ++ local }) in
         let p = none_in_three c.judgement.faults (count_type_faults (span_of e) c.judgement.ty) (count_faults (span_of e) (number_of_value c.value)) f.faults in
-        let names = not_broken (names_a_local context e) 5 (span_of e) (none_in_three j.faults local size p.0).1 in
+        let names = (or_false (names_a_bound context e) (names_a_member context e) (not_broken (names_a_local context e) 5 (span_of e) (none_in_three j.faults local size p.0).1)).0 in
         ap (λ v. and_then (count_in (untyped_of e) v) some_count) (value_alike context a b e.0 h names)
     by_untyped (Some number) q f =
         ap (λ o. and_then (count_in o (value_of e.0 a)) some_count) q ∙ sym (ap (λ o. and_then (count_in o (value_of e.0 b)) some_count) q)

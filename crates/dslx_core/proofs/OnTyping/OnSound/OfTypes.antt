@@ -11,7 +11,7 @@ use Rattle.dslx_meaning.specs.declared.ty.DslxType.{DslxType}
 use Rattle.dslx_meaning.specs.Rules.ConstantRules.{count_faults, count_of}
 use Rattle.dslx_meaning.specs.Rules.TypeEnvs.{ExprPair, TypeEnv, breaks, breaks_if, faults_of_all, reached_of_all, settled, types_of, size_if_typed}
 use Rattle.dslx_meaning.specs.Rules.Typings.{TypePair}
-use Rattle.dslx_meaning.specs.Rules.Mentions.{AsType, is_cyclic, is_of_use}
+use Rattle.dslx_meaning.specs.Rules.Mentions.{AsType, is_of_use}
 use Rattle.dslx_meaning.specs.Rules.TypeRules.{array_of, counted_type, inner_type, inner_types, named_bits, named_type, span_of_type, unit_faults}
 use Rattle.dslx_core.specs.Typing.Typed.Complete.{IsWellTypedPart}
 use Rattle.dslx_core.specs.Typing.Typed.Given.{EachTypeMeans}
@@ -62,7 +62,7 @@ name_has_den span name = record {
     by_use context env h false q well_typed = some_fault (breaks 1 span) [] (settled_well_typed context.known span None (breaks 1 span ∷ []) [] (Some 0) well_typed).faults
     by_use context env h true q well_typed =
         let t = h.known.types name q in
-        (t.0, (settled_well_typed context.known span (types_at context name) (breaks_if (is_cyclic context.known.whole context.owner name) 3 span) [] (Some 0) well_typed).ty ∙ t.1)
+        (t.0, (settled_well_typed context.known span (types_at context name) (breaks_if (context.known.is_cyclic context.owner name) 3 span) [] (Some 0) well_typed).ty ∙ t.1)
 
 -- ---- tuples
 

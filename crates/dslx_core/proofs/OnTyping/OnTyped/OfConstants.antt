@@ -17,7 +17,7 @@ use Rattle.dslx_meaning.specs.declared.value.DslxValue.{DslxValue}
 use Rattle.dslx_meaning.specs.declared.value.UntypedLiteral.{UntypedLiteral}
 use Rattle.dslx_meaning.specs.Rules.Mentions.{mentioned, free_names}
 use Rattle.dslx_meaning.specs.Rules.TypeEnvs.{TypeEnv, Typed, Judgement, ExprPair, breaks_if, alone, span_of, untyped_of, constant_env, unhidden, with_typed}
-use Rattle.dslx_meaning.specs.Rules.ConstantRules.{is_empty, is_sound_here, names_a_local, ConstantSeen, constant_typing, value_if_whole, constant_of, untyped_typing, constant_or_untyped, size_faults, number_of_value, untyped_count, count_of}
+use Rattle.dslx_meaning.specs.Rules.ConstantRules.{is_empty, is_sound_here, names_a_bound, names_a_local, names_a_member, ConstantSeen, constant_typing, value_if_whole, constant_of, untyped_typing, constant_or_untyped, size_faults, number_of_value, untyped_count, count_of}
 use Rattle.dslx_meaning.specs.Rules.OperatorRules.{bound_number}
 use Rattle.dslx_core.specs.Typing.Laws.Agreement.{AreBoundAlike}
 use Rattle.dslx_core.proofs.Lemmas.Typing.Laws.{and_true}
@@ -104,7 +104,7 @@ constant_is_denoted context bound e v h k = by_test (is_sound_here context.known
         let own = (alone context e).faults ++ breaks_if (names_a_local context e) 5 (span_of e) in
         let none = and_true (is_empty j.faults) (list_all context.known.is_sound j.reached) q in
         let first = empty_parts own (size_faults context.known (span_of e).to (record (alone context e) { faults = own })) none.0 in
-        let names = no_rule (names_a_local context e) 5 (span_of e) (empty_parts (alone context e).faults (breaks_if (names_a_local context e) 5 (span_of e)) first.0).1 in
+        let names = (or_false (names_a_bound context e) (names_a_member context e) (no_rule (names_a_local context e) 5 (span_of e) (empty_parts (alone context e).faults (breaks_if (names_a_local context e) 5 (span_of e)) first.0).1)).0 in
         sym (same_at_place context bound e.0 h names) ∙ whole j.ty j.size r
 
 -- what breaks nothing and has a type, a size and a value at its place is known
@@ -115,7 +115,7 @@ denoted_is_known context bound e t n v h well_typed own size k =
     let faults = (alone context e).faults ++ breaks_if (names_a_local context e) 5 (span_of e) in
     let more = size_faults context.known (span_of e).to (record (alone context e) { faults = faults }) in
     let empty = ap is_empty well_typed.faults in
-    let names = no_rule (names_a_local context e) 5 (span_of e) (empty_parts (alone context e).faults (breaks_if (names_a_local context e) 5 (span_of e)) (empty_parts faults more empty).0).1 in
+    let names = (or_false (names_a_bound context e) (names_a_member context e) (no_rule (names_a_local context e) 5 (span_of e) (empty_parts (alone context e).faults (breaks_if (names_a_local context e) 5 (span_of e)) (empty_parts faults more empty).0).1)).0 in
     (λ i. if (empty i && well_typed.reached i) then and_then (own i) (λ t. and_then (size i) (λ n. same_at_place context bound e.0 h names i)) else None) ∙ k
 
 -- ---- sizes and bounds

@@ -18,7 +18,6 @@ use Rattle.dslx_meaning.specs.Rules.TypeEnvs.{TypeEnv, Judgement, breaks, breaks
 use Rattle.dslx_meaning.specs.Rules.PatternRules.{is_there}
 use Rattle.dslx_meaning.specs.Rules.AggregateRules.{number_typing, range_faults}
 use Rattle.dslx_meaning.specs.Rules.NameRules.{name_typing, local_or_other, parametric_or_item, item_value, has_member, member_of, member_type, member_typing, end_or_other}
-use Rattle.dslx_meaning.specs.Rules.Mentions.{is_cyclic}
 use Rattle.dslx_core.specs.Typing.Typed.Kinds.{is_of}
 use Rattle.dslx_core.specs.Typing.Typed.Declared.{Declarations, IsDeclared}
 use Rattle.dslx_core.specs.Typing.Typed.Given.{GivesOf, GivesItsType}
@@ -41,7 +40,7 @@ name_gives span context name env h t e = by_local (typed_in name context.locals)
     by_item : (b : Bool) → typed_in name context.locals ≡ None → given_in name context.parametric_args ≡ None → (item_value span context name b).ty ≡ Some t → GivesOf (types_at context) t (value_of_name name env)
     by_item false q r k = none_some t (settled_type None (breaks 1 span ∷ []) t k).1
     by_item true q r k =
-        let s = settled_type (option_map type_of_value (context.known.items.constant name)) (breaks_if (is_cyclic context.known.whole context.owner name) 3 span) t k in
+        let s = settled_type (option_map type_of_value (context.known.items.constant name)) (breaks_if (context.known.is_cyclic context.owner name) 3 span) t k in
         let c = mapped_from type_of_value (context.known.items.constant name) t s.1 in
         moved (types_at context) (type_of_value c.0) t _ _ c.2 refl (h.constants name c.0 q r c.1).gives
 
@@ -75,8 +74,8 @@ member_gives context e a env h t k = by_enum (as_enum (item_named e.name context
     by_enum None q r = none_some t (settled_type None (breaks 1 e.span ∷ []) t r).1
     by_enum (Some declared) q r =
         let s = settled_type (member_type context e a)
-        (breaks_if (is_cyclic context.known.whole context.owner e.name) 3 e.span ++ breaks_if (not (has_member declared a.name)) 1 a.span) t r in
-        let f = unbroken_parts (breaks_if (is_cyclic context.known.whole context.owner e.name) 3 e.span) (breaks_if (not (has_member declared a.name)) 1 a.span) s.0 in
+        (breaks_if (context.known.is_cyclic context.owner e.name) 3 e.span ++ breaks_if (not (has_member declared a.name)) 1 a.span) t r in
+        let f = unbroken_parts (breaks_if (context.known.is_cyclic context.owner e.name) 3 e.span) (breaks_if (not (has_member declared a.name)) 1 a.span) s.0 in
         let known = and_then_type (context.known.items.member e.name a.name) (λ v. types_at context e.name) t s.1 in
         h.members e.name a.name declared t q (test_holds (has_member declared a.name) 1 a.span f.1) known.2
 

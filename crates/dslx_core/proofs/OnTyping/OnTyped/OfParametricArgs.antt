@@ -5,7 +5,6 @@ use Rattle.std.specs.List.{list_all}
 use Rattle.dslx_tree.specs.declared.expr.Expr.{Expr}
 use Rattle.dslx_tree.specs.declared.item.Field.{Field}
 use Rattle.dslx_tree.specs.declared.item.Parametric.{Parametric}
-use Rattle.dslx_tree.specs.declared.type_expr.TypeExpr.{TypeExpr}
 use Rattle.dslx_meaning.specs.Lists.{and_then, is_in}
 use Rattle.dslx_meaning.specs.Types.{same_type, is_unit}
 use Rattle.dslx_meaning.specs.Values.{type_of_value}
@@ -17,7 +16,8 @@ use Rattle.dslx_meaning.specs.Items.{with_number, parametric_args_bound, inferre
 use Rattle.dslx_meaning.specs.declared.ty.DslxType.{DslxType}
 use Rattle.dslx_meaning.specs.declared.value.DslxValue.{DslxValue}
 use Rattle.dslx_meaning.specs.Rules.TypeEnvs.{GlobalEnv}
-use Rattle.dslx_meaning.specs.Rules.CallRules.{ParametricArgument, Resolved, Number, Unknown, Wrong, resolved_value, in_type, of_type, declared_type, default_value, not_given, parametric_args_for, inferred_by, known_before, and_parametric, value_before, parametric_args_seen}
+use Rattle.dslx_meaning.specs.Rules.TypeRules.{unless_unit}
+use Rattle.dslx_meaning.specs.Rules.CallRules.{ParametricArgument, Resolved, Number, Unknown, Wrong, resolved_value, in_type, of_type, parametric_type, default_value, not_given, parametric_args_for, inferred_by, known_before, and_parametric, value_before, parametric_args_seen}
 use Rattle.dslx_core.specs.Typing.Typed.Declared.{Declarations, IsDeclared}
 use Rattle.dslx_core.specs.Typing.Typed.Given.{GivesOf}
 use Rattle.dslx_core.specs.Typing.Typed.Kinds.{is_of}
@@ -61,14 +61,17 @@ of_its_type (Some t) (Some w) v e = by_test (same_type t (type_of_value w)) e
     by_test true h = h
     by_test false h = none_some v h
 
-pub declared_is : (known : GlobalEnv) (owner : List ℕ) (so_far : List Given) (p : TypeExpr) (t : DslxType) → declared_type known owner (known_before so_far) p ≡ Some t → known.type_in owner so_far [] p ≡ Some t
-declared_is known owner so_far p t e =
-    let q = and_then_type (known.type_in owner so_far [] p) (λ t. if is_unit t then None else Some t) t e in
+pub not_unit_is : (o : Option DslxType) (t : DslxType) → unless_unit o ≡ Some t → o ≡ Some t
+not_unit_is o t e =
+    let q = and_then_type o (λ t. if is_unit t then None else Some t) t e in
     q.1 ∙ by_test q.0 (is_unit q.0) q.2
   where
     by_test : (u : DslxType) (b : Bool) → (if b then None else Some u) ≡ Some t → Some u ≡ Some t
     by_test u true h = none_some t h
     by_test u false h = h
+
+pub parametric_is : (known : GlobalEnv) (owner : List ℕ) (before : List (Option DslxValue)) (t : DslxType) → parametric_type known owner (known_before before) ≡ Some t → (known.parameter_in owner before).ty ≡ Some t
+parametric_is known owner before t e = not_unit_is (known.parameter_in owner before).ty t e
 
 -- ---- what is inferred
 
@@ -109,38 +112,36 @@ number_or_wrong None = refl
 number_or_wrong (Some v) = refl
 
 -- a parameter that isn't given
-found_otherwise : (known : GlobalEnv) (items : Meanings) (owner : List ℕ) (inferred : List Inferred) (so_far : List Given) (p : Parametric) (maybe : Bool) (v : DslxValue) → ParametricMeans known items owner so_far p
-    → number_of (not_given known owner (known_before so_far) p (declared_type known owner (known_before so_far) p.ty) maybe (parametric_args_for p.name.name inferred)).value ≡ Some v
+found_otherwise : (known : GlobalEnv) (items : Meanings) (owner : List ℕ) (inferred : List Inferred) (before : List (Option DslxValue)) (so_far : List Given) (p : Parametric) (maybe : Bool) (v : DslxValue)
+    → ParametricMeans known items owner before so_far p
+    → number_of (not_given known owner (known_before before) p (parametric_type known owner (known_before before)) maybe (parametric_args_for p.name.name inferred)).value ≡ Some v
     → inferred_value (record { items = items; bound = so_far }) p (inferred_for p.name.name inferred) ≡ Some v
-found_otherwise known items owner inferred so_far p maybe v means e =
-    ap (inferred_value (record { items = items; bound = so_far }) p) (first_for p.name.name inferred (parametric_args_for p.name.name inferred) refl) ∙ by_parametric_args (parametric_args_for p.name.name inferred) e
+found_otherwise known items owner inferred before so_far p maybe v means e =
+    ap (inferred_value (record { items = items; bound = so_far }) p) (first_for p.name.name inferred (parametric_args_for p.name.name inferred) refl) ∙ by_maybe maybe (parametric_args_for p.name.name inferred) e
   where
-    by_default : (o : Option Expr) → p.default ≡ o → number_of (default_value known owner (known_before so_far) (declared_type known owner (known_before so_far) p.ty) o).value ≡ Some v
+    by_default : (o : Option Expr) → p.default ≡ o → number_of (default_value known owner (known_before before) (parametric_type known owner (known_before before)) o).value ≡ Some v
         → and_then o (λ e. value_of e (record { items = items; bound = so_far })) ≡ Some v
     by_default None d h = none_some v h
-    by_default (Some x) d h = means.defaults x v d (of_its_type (declared_type known owner (known_before so_far) p.ty) (known.default_in owner so_far x).value v (sym (of_resolved (of_type (declared_type known owner (known_before so_far) p.ty) (known.default_in owner so_far x).value)) ∙ h))
+    by_default (Some x) d h = means.defaults x v d
+        (of_its_type (parametric_type known owner (known_before before)) (known.default_in owner before).value v (sym (of_resolved (of_type (parametric_type known owner (known_before before)) (known.default_in owner before).value)) ∙ h))
 
-    by_maybe : (b : Bool) → number_of (not_given known owner (known_before so_far) p (declared_type known owner (known_before so_far) p.ty) b []).value ≡ Some v
-        → and_then p.default (λ e. value_of e (record { items = items; bound = so_far })) ≡ Some v
-    by_maybe true h = none_some v h
-    by_maybe false h = by_default p.default refl h
-
-    by_type : (n : ℕ) (t : Option DslxType) → declared_type known owner (known_before so_far) p.ty ≡ t → number_of (in_type t n) ≡ Some v
+    by_type : (n : ℕ) (t : Option DslxType) → parametric_type known owner (known_before before) ≡ t → number_of (in_type t n) ≡ Some v
         → and_then (written_type p.ty (record { items = items; bound = so_far })) (λ t. number_value t (record { is_negative = false; value = n })) ≡ Some v
     by_type n None q h = none_some v h
     by_type n (Some t) q h =
-        ap (λ o. and_then o (λ t. number_value t (record { is_negative = false; value = n }))) (means.types t (declared_is known owner so_far p.ty t q))
+        ap (λ o. and_then o (λ t. number_value t (record { is_negative = false; value = n }))) (means.types t (parametric_is known owner before t q))
         ∙ sym (number_or_wrong (number_value t (record { is_negative = false; value = n }))) ∙ h
 
-    by_one : (n : ℕ) (b : Bool) → number_of (if b then in_type (declared_type known owner (known_before so_far) p.ty) n else Wrong) ≡ Some v
+    by_one : (n : ℕ) (b : Bool) → number_of (if b then in_type (parametric_type known owner (known_before before)) n else Wrong) ≡ Some v
         → and_then (written_type p.ty (record { items = items; bound = so_far })) (λ t. number_value t (record { is_negative = false; value = n })) ≡ Some v
-    by_one n true h = by_type n (declared_type known owner (known_before so_far) p.ty) refl h
+    by_one n true h = by_type n (parametric_type known owner (known_before before)) refl h
     by_one n false h = none_some v h
 
-    by_parametric_args : (ns : List ℕ) → number_of (not_given known owner (known_before so_far) p (declared_type known owner (known_before so_far) p.ty) maybe ns).value ≡ Some v
+    by_maybe : (b : Bool) (ns : List ℕ) → number_of (not_given known owner (known_before before) p (parametric_type known owner (known_before before)) b ns).value ≡ Some v
         → inferred_value (record { items = items; bound = so_far }) p (first_of ns) ≡ Some v
-    by_parametric_args [] h = by_maybe maybe h
-    by_parametric_args (n ∷ ns) h = by_one n (list_all (λ k. k == n) ns) h
+    by_maybe true ns h = none_some v h
+    by_maybe false [] h = by_default p.default refl h
+    by_maybe false (n ∷ ns) h = by_one n (list_all (λ k. k == n) ns) h
 
 -- ---- values of their own types
 
@@ -167,28 +168,29 @@ own_bound types so_far (p ∷ ps) (v ∷ vs) h k = own_bound types (with_number 
 
 -- ---- all parameters
 
-pub parametric_args_found : (known : GlobalEnv) (items : Meanings) (owner : List ℕ) (inferred : List Inferred) (maybe : List (List ℕ)) (so_far : List Given) (ps : List Parametric)
-    (gs : List ParametricArgument) (vs ws : List DslxValue) → ParametricsMean known items owner so_far ps → FitParametricArgs known owner so_far ps ws → GivenMean gs vs → (parametric_args_seen known owner inferred maybe (known_before so_far) ps gs).values ≡ Some ws → all_parametric_args items inferred so_far ps vs ≡ Some ws
-parametric_args_found known items owner inferred maybe so_far [] [] [] ws means fit h e = e
-parametric_args_found known items owner inferred maybe so_far [] [] (v ∷ vs) ws means fit h e = absurd h
-parametric_args_found known items owner inferred maybe so_far [] (g ∷ gs) vs ws means fit h e = none_some ws e
-parametric_args_found known items owner inferred maybe so_far (p ∷ ps) (g ∷ gs) [] ws means fit h e = absurd h
-parametric_args_found known items owner inferred maybe so_far (p ∷ ps) [] (v ∷ vs) ws means fit h e = absurd h
-parametric_args_found known items owner inferred maybe so_far (p ∷ ps) (g ∷ gs) (v ∷ vs) ws means fit h e =
-    let t = declared_type known owner (known_before so_far) p.ty in
+pub parametric_args_found : (known : GlobalEnv) (items : Meanings) (owner : List ℕ) (inferred : List Inferred) (maybe : List (List ℕ)) (before : List (Option DslxValue)) (so_far : List Given) (ps : List Parametric)
+    (gs : List ParametricArgument) (vs ws : List DslxValue) → ParametricsMean known items owner before so_far ps → FitParametricArgs known owner before ps ws → GivenMean gs vs
+    → (parametric_args_seen known owner inferred maybe (known_before before) ps gs).values ≡ Some ws → all_parametric_args items inferred so_far ps vs ≡ Some ws
+parametric_args_found known items owner inferred maybe before so_far [] [] [] ws means fit h e = e
+parametric_args_found known items owner inferred maybe before so_far [] [] (v ∷ vs) ws means fit h e = absurd h
+parametric_args_found known items owner inferred maybe before so_far [] (g ∷ gs) vs ws means fit h e = none_some ws e
+parametric_args_found known items owner inferred maybe before so_far (p ∷ ps) (g ∷ gs) [] ws means fit h e = absurd h
+parametric_args_found known items owner inferred maybe before so_far (p ∷ ps) [] (v ∷ vs) ws means fit h e = absurd h
+parametric_args_found known items owner inferred maybe before so_far (p ∷ ps) (g ∷ gs) (v ∷ vs) ws means fit h e =
+    let t = parametric_type known owner (known_before before) in
     let r = resolved_value (of_type t g.seen.value) in
-    let a = taken_apart r (parametric_args_seen known owner inferred maybe (and_parametric (known_before so_far) p r) ps gs).values ws e in
+    let a = taken_apart r (parametric_args_seen known owner inferred maybe (and_parametric (known_before before) r) ps gs).values ws e in
     let one = of_its_type t g.seen.value a.first (sym (of_resolved (of_type t g.seen.value)) ∙ ap number_of a.known) in
     let same = h.0 a.first one in
-    let fits = subst (FitParametricArgs known owner so_far (p ∷ ps)) (sym a.all) fit in
-    let more = parametric_args_found known items owner inferred maybe (with_number so_far p a.first) ps gs vs a.rest (means.1 fits.0.0 a.first fits.0.1 fits.0.2) fits.1 h.1
-    (ap (λ r. (parametric_args_seen known owner inferred maybe (and_parametric (known_before so_far) p r) ps gs).values) (sym a.known) ∙ a.others) in
+    let fits = subst (FitParametricArgs known owner before (p ∷ ps)) (sym a.all) fit in
+    let more = parametric_args_found known items owner inferred maybe (Some a.first ∷ before) (with_number so_far p a.first) ps gs vs a.rest (means.1 fits.0.0 a.first fits.0.1 fits.0.2) fits.1 h.1
+    (ap (λ r. (parametric_args_seen known owner inferred maybe (and_parametric (known_before before) r) ps gs).values) (sym a.known) ∙ a.others) in
     (λ i. put_first (same i) (all_parametric_args items inferred (with_number so_far p (same i)) ps vs)) ∙ ap (put_first a.first) more ∙ ap Some a.all
-parametric_args_found known items owner inferred maybe so_far (p ∷ ps) [] [] ws means fit h e =
-    let r = not_given known owner (known_before so_far) p (declared_type known owner (known_before so_far) p.ty) (is_in p.name.name maybe) (parametric_args_for p.name.name inferred) in
-    let a = taken_apart r.value (parametric_args_seen known owner inferred maybe (and_parametric (known_before so_far) p r.value) ps []).values ws e in
-    let one = found_otherwise known items owner inferred so_far p (is_in p.name.name maybe) a.first means.0 (ap number_of a.known) in
-    let fits = subst (FitParametricArgs known owner so_far (p ∷ ps)) (sym a.all) fit in
-    let more = parametric_args_found known items owner inferred maybe (with_number so_far p a.first) ps [] [] a.rest (means.1 fits.0.0 a.first fits.0.1 fits.0.2) fits.1 tt
-    (ap (λ r. (parametric_args_seen known owner inferred maybe (and_parametric (known_before so_far) p r) ps []).values) (sym a.known) ∙ a.others) in
+parametric_args_found known items owner inferred maybe before so_far (p ∷ ps) [] [] ws means fit h e =
+    let r = not_given known owner (known_before before) p (parametric_type known owner (known_before before)) (is_in p.name.name maybe) (parametric_args_for p.name.name inferred) in
+    let a = taken_apart r.value (parametric_args_seen known owner inferred maybe (and_parametric (known_before before) r.value) ps []).values ws e in
+    let one = found_otherwise known items owner inferred before so_far p (is_in p.name.name maybe) a.first means.0 (ap number_of a.known) in
+    let fits = subst (FitParametricArgs known owner before (p ∷ ps)) (sym a.all) fit in
+    let more = parametric_args_found known items owner inferred maybe (Some a.first ∷ before) (with_number so_far p a.first) ps [] [] a.rest (means.1 fits.0.0 a.first fits.0.1 fits.0.2) fits.1 tt
+    (ap (λ r. (parametric_args_seen known owner inferred maybe (and_parametric (known_before before) r) ps []).values) (sym a.known) ∙ a.others) in
     ap (λ o. and_then o (λ v. put_first v (all_parametric_args items inferred (with_number so_far p v) ps []))) one ∙ ap (put_first a.first) more ∙ ap Some a.all

@@ -19,7 +19,6 @@ use Rattle.dslx_meaning.specs.declared.ty.DslxType.TheViews as type_views
 use Rattle.dslx_meaning.specs.declared.value.DslxValue.{DslxValue}
 use Rattle.dslx_meaning.specs.declared.value.DslxValue as value
 use Rattle.dslx_meaning.specs.declared.value.DslxValue.TheViews as views
-use Rattle.dslx_meaning.specs.Rules.Mentions.{is_cyclic}
 use Rattle.dslx_meaning.specs.Rules.TypeEnvs.{TypeEnv, Judgement, ExprPair, breaks_if, has_broken, span_of, alone, no_token, types_of, faults_of_all}
 use Rattle.dslx_meaning.specs.Rules.Typings.{FieldSeen}
 use Rattle.dslx_meaning.specs.Rules.NameRules.{name_typing}
@@ -147,7 +146,7 @@ struct_gives types parts span context env name fields ms others r declared own n
     let js = map (field_typing context struct) fields in
     let others_seen = others_typing context struct others in
     let wrong = has_twice (written_fields fields) || lacks_one (map name_of_field declared.fields) (written_fields fields) (is_there others) in
-    let cyclic = breaks_if (is_cyclic context.known.whole context.owner name.name) 3 name.span in
+    let cyclic = breaks_if (context.known.is_cyclic context.owner name.name) 3 name.span in
     let unknown = unknown_fields (map name_of_field declared.fields) fields in
     let s = settled_type (when_all (others_seen.ty ∷ types_of js) struct) ((((cyclic ++ faults_of_all js) ++ others_seen.faults) ++ unknown) ++ breaks_if wrong 22 span) t e in
     let f = three_unbroken ((cyclic ++ faults_of_all js) ++ others_seen.faults) unknown (breaks_if wrong 22 span) s.0 in

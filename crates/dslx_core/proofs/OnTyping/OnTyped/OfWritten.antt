@@ -6,7 +6,6 @@ use Rattle.dslx_meaning.specs.Lists.{all_some, and_then, with_both}
 use Rattle.dslx_meaning.specs.Meaning.{some_count}
 use Rattle.dslx_meaning.specs.declared.ty.DslxType.{DslxType}
 use Rattle.dslx_meaning.specs.declared.ty.DslxType as ty
-use Rattle.dslx_meaning.specs.Rules.Mentions.{is_cyclic}
 use Rattle.dslx_meaning.specs.Rules.TypeEnvs.{TypeEnv, Judgement, ExprPair, breaks, breaks_if, settled, types_of, faults_of_all, reached_of_all}
 use Rattle.dslx_meaning.specs.Rules.Typings.{TypePair}
 use Rattle.dslx_meaning.specs.Rules.ConstantRules.{is_zero, CountSeen, constant_or_untyped, count_faults, count_number, count_of}
@@ -37,7 +36,7 @@ pub name_means : (span : Span) (context : TypeEnv) (name : List ℕ) (b : Bool) 
     → TypeMeans (types_at context) (named_type span context name b) (types_at context name)
 name_means span context name false declared t e = none_some t (settled_type None (breaks 1 span ∷ []) t e).1
 name_means span context name true declared t e =
-    let q = settled_type (types_at context name) (breaks_if (is_cyclic context.known.whole context.owner name) 3 span) t e in
+    let q = settled_type (types_at context name) (breaks_if (context.known.is_cyclic context.owner name) 3 span) t e in
     (q.1, declared t q.1)
 
 -- the parts of a tuple

@@ -42,7 +42,7 @@ use Rattle.dslx_meaning.specs.Rules.TypeRules.{inner_type, inner_types, named_ty
 use Rattle.dslx_core.specs.Typing.TypingRelations.Reached.{AllNamed, InstancesReach, MentionsReach}
 use Rattle.dslx_meaning.specs.Lists.{and_then}
 use Rattle.dslx_core.proofs.OnTyping.OnTyping.OfCalls.{EachReaches, IfCalls, call_reaches}
-use Rattle.dslx_core.proofs.OnTyping.OnTyping.Parts.{ArmReaches, FieldReaches, PatternReaches, Reaches, StatementReaches, TypeReaches, constant_reaches, element_reaches, join, join_three, member_reaches, name_reaches, pair_reaches, parts, three_parts, unmarked}
+use Rattle.dslx_core.proofs.OnTyping.OnTyping.Parts.{ArmReaches, FieldReaches, PatternReaches, Reaches, StatementReaches, TypeReaches, constant_reaches, element_reaches, join, join_three, member_reaches, name_reaches, taken_reaches, parts, three_parts, unmarked}
 
 -- ---- the two folds
 
@@ -247,7 +247,7 @@ call_claim P kind span name parametric_args es bound on_top context h =
     call_reaches P kind span name (map (λ (p : ArgPart P). p.0) parametric_args) (map (λ (p : ExprPart P). p.0) es) on_top context (args_reach P bound context parametric_args r.1) (exprs_reach P bound context es r.2) (by_kind kind r.0)
   where
     by_kind : (kind : CallKind) → MentionsReach P context.known (if is_text_function kind then mention AsFunction name.name else [])
-        → IfCalls kind ((f : Function) → as_function (item_named name.name context.known.whole.items) ≡ Some f → InstancesReach P context.known f.name.name f.parametrics)
+        → IfCalls kind ((f : Function) → as_function (item_named name.name context.known.whole.items) ≡ Some f → InstancesReach P context.known f.name.name)
     by_kind Calls g = g.0
     by_kind _ g = tt
 
@@ -301,7 +301,7 @@ node_reaches P (Node-F.Part e i t) span bound on_top context h =
     let r = three_parts P context.known (e.1 bound) (i.1 bound) (t.1 bound) h in
     join_three P (alone context e.0).reached (alone context i.0).reached (t.0.1 context).reached (alone_reaches P bound context e r.0) (alone_reaches P bound context i r.1) (t.2 bound context r.2)
 node_reaches P (Node-F.Field e name) span bound on_top context h = alone_reaches P bound context e h
-node_reaches P (Node-F.Element e place k) span bound on_top context h = pair_reaches P context e.0 (e.2 bound false context h)
+node_reaches P (Node-F.Element e place k) span bound on_top context h = taken_reaches P k context e.0 (e.2 bound false context h)
 node_reaches P (Node-F.Prefix o e) span bound on_top context h = alone_reaches P bound context e h
 node_reaches P (Node-F.Cast e t) span bound on_top context h =
     let r = parts P context.known (e.1 bound) (t.1 bound) h in

@@ -13,58 +13,54 @@ use Rattle.dslx_meaning.specs.Lists.{is_in}
 use Rattle.dslx_meaning.specs.Types.{bool_type}
 use Rattle.dslx_meaning.specs.declared.ty.DslxType.{DslxType}
 use Rattle.dslx_meaning.specs.declared.value.DslxValue.{DslxValue}
-use Rattle.dslx_meaning.specs.Rules.CallRules.{Before, ParametricArgument, ParametricArgsSeen, Unknown, and_parametric, builtin_typing, call_typing, call_parametric_args, call_parts_reached, channel_named, channel_seen, counting, declared_type, default_there, default_value, first_operand_type, function_call, given_judgements, given_parametric_args, has_right_count, held_typing, inferred_by, is_refused, typing_there, known_before, maybe_inferred, named_channel, not_given, nothing_there, parametric_args_for, parametric_args_seen, of_type, only_on_top, channel_end_at, reached_by, receiving, receiving_if, resolved_value, right_call, sending, sending_if, token_typing, type_there, unnumbered_effect, updating, without_default, without_parametric_args, wrong_call, wrong_effect}
-use Rattle.dslx_meaning.specs.Rules.ConstantRules.{is_empty}
+use Rattle.dslx_meaning.specs.Rules.CallRules.{Before, ParametricArgument, ParametricArgsSeen, Unknown, and_parametric, builtin_typing, call_typing, call_parametric_args, call_parts_reached, channel_named, channel_seen, counting, parametric_type, default_there, default_value, first_operand_type, function_call, given_judgements, given_parametric_args, has_right_count, held_typing, inferred_by, is_refused, typing_there, known_before, maybe_inferred, named_channel, not_given, nothing_there, parametric_args_for, parametric_args_seen, of_type, only_on_top, channel_end_at, reached_by, receiving, receiving_if, resolved_value, right_call, sending, sending_if, token_typing, type_there, unnumbered_effect, updating, without_default, without_parametric_args, wrong_call, wrong_effect}
 use Rattle.dslx_meaning.specs.Rules.TypeEnvs.{ExprPair, Judgement, GlobalEnv, ChannelEnd, TypeEnv, all_alone, alone, breaks_if, name_of_expr, reached_of_all, span_of, types_of, within}
 use Rattle.dslx_meaning.specs.Rules.Typings.{ArgPair}
-use Rattle.dslx_meaning.specs.Rules.Mentions.{is_cyclic}
-use Rattle.dslx_core.specs.Typing.TypingRelations.Reached.{AllNamed, EachParametricReaches, InstancesReach, ParametricReaches}
+use Rattle.dslx_core.specs.Typing.TypingRelations.Reached.{AllNamed, DeclarationReaches, InstancesReach}
 use Rattle.dslx_core.proofs.OnTyping.OnTyping.Parts.{join, join_three, unmarked}
 
 -- ---- parametrics
 
-default_reaches : (P : List ℕ → Bool) (known : GlobalEnv) (owner : List ℕ) (before : Before) (t : Option DslxType) (p : Parametric) → ParametricReaches P known owner p → (o : Option Expr) → p.default ≡ o
-    → AllNamed P (default_value known owner before t o).typing.reached
-default_reaches P known owner before t p h None q = tt
-default_reaches P known owner before t p h (Some e) q = by_unknown (is_empty before.unknown)
+default_reaches : (P : List ℕ → Bool) (known : GlobalEnv) (owner : List ℕ) (before : Before) (t : Option DslxType) → DeclarationReaches P known owner → (o : Option Expr) → AllNamed P (default_value known owner before t o).typing.reached
+default_reaches P known owner before t h None = tt
+default_reaches P known owner before t h (Some e) = by_known before.are_known
   where
-    by_unknown : (b : Bool) → AllNamed P (if b then default_there known owner before.values t e else without_default Unknown).typing.reached
-    by_unknown true = h.default before.values e q
-    by_unknown false = tt
+    by_known : (b : Bool) → AllNamed P (if b then default_there known owner before.values t e else without_default Unknown).typing.reached
+    by_known true = h.default before.values
+    by_known false = tt
 
-not_given_reaches : (P : List ℕ → Bool) (known : GlobalEnv) (owner : List ℕ) (before : Before) (p : Parametric) → ParametricReaches P known owner p → (t : Option DslxType) (maybe : Bool) (ns : List ℕ)
+not_given_reaches : (P : List ℕ → Bool) (known : GlobalEnv) (owner : List ℕ) (before : Before) (p : Parametric) → DeclarationReaches P known owner → (t : Option DslxType) (maybe : Bool) (ns : List ℕ)
     → AllNamed P (not_given known owner before p t maybe ns).typing.reached
-not_given_reaches P known owner before p h t true [] = tt
-not_given_reaches P known owner before p h t false [] = default_reaches P known owner before t p h p.default refl
-not_given_reaches P known owner before p h t maybe (n ∷ ns) = tt
+not_given_reaches P known owner before p h t true ns = tt
+not_given_reaches P known owner before p h t false [] = default_reaches P known owner before t h p.default
+not_given_reaches P known owner before p h t false (n ∷ ns) = tt
 
-type_reaches : (P : List ℕ → Bool) (known : GlobalEnv) (owner : List ℕ) (before : Before) (p : Parametric) → ParametricReaches P known owner p → AllNamed P (type_there known owner before p).reached
-type_reaches P known owner before p h = by_unknown (is_empty before.unknown)
+type_reaches : (P : List ℕ → Bool) (known : GlobalEnv) (owner : List ℕ) (before : Before) → DeclarationReaches P known owner → AllNamed P (type_there known owner before).reached
+type_reaches P known owner before h = by_known before.are_known
   where
-    by_unknown : (b : Bool)
-        → AllNamed P (if b then record { faults = (known.type_seen_in owner before.values p.ty).faults; reached = (known.type_seen_in owner before.values p.ty).reached } else nothing_there).reached
-    by_unknown true = h.ty before.values
-    by_unknown false = tt
+    by_known : (b : Bool) → AllNamed P (if b then record { faults = (known.parameter_in owner before.values).faults; reached = (known.parameter_in owner before.values).reached } else nothing_there).reached
+    by_known true = h.ty before.values
+    by_known false = tt
 
 pub parametric_args_reach : (P : List ℕ → Bool) (known : GlobalEnv) (owner : List ℕ) (inferred : List Inferred) (maybe : List (List ℕ)) (before : Before) (ps : List Parametric) (gs : List ParametricArgument)
-    → EachParametricReaches P known owner ps → AllNamed P (parametric_args_seen known owner inferred maybe before ps gs).declared.reached
+    → DeclarationReaches P known owner → AllNamed P (parametric_args_seen known owner inferred maybe before ps gs).declared.reached
 parametric_args_reach P known owner inferred maybe before [] [] h = tt
 parametric_args_reach P known owner inferred maybe before [] (g ∷ gs) h = tt
 parametric_args_reach P known owner inferred maybe before (p ∷ ps) (g ∷ gs) h =
-    let r = resolved_value (of_type (declared_type known owner before p.ty) g.seen.value) in
-    let rest = parametric_args_seen known owner inferred maybe (and_parametric before p r) ps gs in
-    join P (type_there known owner before p).reached rest.declared.reached (type_reaches P known owner before p h.0) (parametric_args_reach P known owner inferred maybe (and_parametric before p r) ps gs h.1)
+    let r = resolved_value (of_type (parametric_type known owner before) g.seen.value) in
+    let rest = parametric_args_seen known owner inferred maybe (and_parametric before r) ps gs in
+    join P (type_there known owner before).reached rest.declared.reached (type_reaches P known owner before h) (parametric_args_reach P known owner inferred maybe (and_parametric before r) ps gs h)
 parametric_args_reach P known owner inferred maybe before (p ∷ ps) [] h =
-    let t = declared_type known owner before p.ty in
+    let t = parametric_type known owner before in
     let r = not_given known owner before p t (is_in p.name.name maybe) (parametric_args_for p.name.name inferred) in
-    let rest = parametric_args_seen known owner inferred maybe (and_parametric before p r.value) ps [] in
-    join_three P (type_there known owner before p).reached r.typing.reached rest.declared.reached (type_reaches P known owner before p h.0)
-    (not_given_reaches P known owner before p h.0 t (is_in p.name.name maybe) (parametric_args_for p.name.name inferred))
-    (parametric_args_reach P known owner inferred maybe (and_parametric before p r.value) ps [] h.1)
+    let rest = parametric_args_seen known owner inferred maybe (and_parametric before r.value) ps [] in
+    join_three P (type_there known owner before).reached r.typing.reached rest.declared.reached (type_reaches P known owner before h)
+    (not_given_reaches P known owner before p h t (is_in p.name.name maybe) (parametric_args_for p.name.name inferred))
+    (parametric_args_reach P known owner inferred maybe (and_parametric before r.value) ps [] h)
 
 -- so does what is judged where the call isn't refused
 pub typing_reaches : (P : List ℕ → Bool) (known : GlobalEnv) (owner : List ℕ) (inferred : List Inferred) (maybe : List (List ℕ)) (ps : List Parametric) (gs : List ParametricArgument) (cyclic : List Fault)
-    → EachParametricReaches P known owner ps → AllNamed P (typing_there cyclic (parametric_args_seen known owner inferred maybe (known_before []) ps gs)).reached
+    → DeclarationReaches P known owner → AllNamed P (typing_there cyclic (parametric_args_seen known owner inferred maybe (known_before []) ps gs)).reached
 typing_reaches P known owner inferred maybe ps gs cyclic h = by_refusal (is_refused cyclic seen)
   where
     seen : ParametricArgsSeen
@@ -82,21 +78,21 @@ instance_reached P false name None h = tt
 instance_reached P false name (Some vs) h = (h, tt)
 
 pub function_reaches : (P : List ℕ → Bool) (span : Span) (context : TypeEnv) (name : Ident) (gs : List ParametricArgument) (es : List ExprPair) (js : List Judgement) → AllNamed P (call_parts_reached gs js)
-    → ((f : Function) → as_function (item_named name.name context.known.whole.items) ≡ Some f → InstancesReach P context.known f.name.name f.parametrics)
+    → ((f : Function) → as_function (item_named name.name context.known.whole.items) ≡ Some f → InstancesReach P context.known f.name.name)
     → AllNamed P (function_call span context name gs es js (as_function (item_named name.name context.known.whole.items))).reached
 function_reaches P span context name gs es js h k = by_function (as_function (item_named name.name context.known.whole.items)) refl
   where
     cyclic : List Fault
-    cyclic = breaks_if (is_cyclic context.known.whole context.owner name.name) 3 span
+    cyclic = breaks_if (context.known.is_cyclic context.owner name.name) 3 span
 
     seen : Function → ParametricArgsSeen
     seen f = call_parametric_args context.known f gs (types_of js)
 
-    by_count : (f : Function) → InstancesReach P context.known f.name.name f.parametrics → (b : Bool) → AllNamed P (if b then right_call span context f gs es js cyclic (seen f) else wrong_call span gs js cyclic).reached
+    by_count : (f : Function) → InstancesReach P context.known f.name.name → (b : Bool) → AllNamed P (if b then right_call span context f gs es js cyclic (seen f) else wrong_call span gs js cyclic).reached
     by_count f r false = h
     by_count f r true =
         join_three P (call_parts_reached gs js) (typing_there cyclic (seen f)).reached (reached_by (is_refused cyclic (seen f)) f.name.name (seen f).values) h
-        (typing_reaches P context.known f.name.name (inferred_by f.arguments (types_of js)) (maybe_inferred f.arguments (types_of js)) f.parametrics gs cyclic r.parametrics)
+        (typing_reaches P context.known f.name.name (inferred_by f.arguments (types_of js)) (maybe_inferred f.arguments (types_of js)) f.parametrics gs cyclic r.declared)
         (instance_reached P (is_refused cyclic (seen f)) f.name.name (seen f).values r.own)
 
     by_function : (o : Option Function) → as_function (item_named name.name context.known.whole.items) ≡ o → AllNamed P (function_call span context name gs es js o).reached
@@ -216,7 +212,7 @@ IfCalls Calls X = X
 IfCalls _ X = Unit {0}
 
 pub call_reaches : (P : List ℕ → Bool) (kind : CallKind) (span : Span) (name : Ident) (as' : List ArgPair) (es : List ExprPair) (on_top : Bool) (context : TypeEnv) → EachReaches P context (map (λ (a : ArgPair). a.1) as')
-    → EachReaches P context es → IfCalls kind ((f : Function) → as_function (item_named name.name context.known.whole.items) ≡ Some f → InstancesReach P context.known f.name.name f.parametrics)
+    → EachReaches P context es → IfCalls kind ((f : Function) → as_function (item_named name.name context.known.whole.items) ≡ Some f → InstancesReach P context.known f.name.name)
     → AllNamed P (call_typing kind span name as' es on_top context).reached
 call_reaches P Calls span name as' es on_top context h k f =
     function_reaches P span context name (given_parametric_args context as') es (all_alone context es)

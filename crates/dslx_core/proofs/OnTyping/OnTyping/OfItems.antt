@@ -39,10 +39,10 @@ use Rattle.dslx_meaning.specs.declared.ty.DslxType.{DslxType}
 use Rattle.dslx_meaning.specs.declared.value.DslxValue.{DslxValue}
 use Rattle.dslx_meaning.specs.Rules.ItemRules.{ConstantFound, annotation_typing, base_if_bits, fields_found, typing_of_type, member_constant, members_found, only_faults, arguments_found, arguments_typed, body_typing, bound_with, default_found, function_seen, function_type_env, item_type_env, typing_of_inner, number_at, parametric_args_behind, parametrics_found, result_typing}
 use Rattle.dslx_meaning.specs.Rules.TypeEnvs.{ExprPair, Instance, GlobalEnv, TypeEnv, alone, untyped_of, breaks, breaks_if, reached_of_all, span_of, with_typed, within}
-use Rattle.dslx_meaning.specs.Rules.Mentions.{arg_if, ends_mentions, is_cyclic, config_statement_mentions, mention, mentioned_in_arg, proc_mentions, Use, AsFunction, AsEnum, AsPattern, AsProc, AsStruct, AsType, AsValue, Mention, definition_mentions, expr_if, field_names, fields_mentions, is_of_use, mentioned, mentioned_in_block, mentioned_in_type, mentions_of, names_mentioned, parametric_names, parametrics_mentions, type_if}
-use Rattle.dslx_meaning.specs.Rules.ModuleRules.{found_of_instance, found_of_item, item_found, no_globals, globals_over, globals_within}
+use Rattle.dslx_meaning.specs.Rules.Mentions.{arg_if, ends_mentions, config_statement_mentions, mention, mentioned_in_arg, proc_mentions, Use, AsFunction, AsEnum, AsPattern, AsProc, AsStruct, AsType, AsValue, Mention, definition_mentions, expr_if, field_names, fields_mentions, is_of_use, mentioned, mentioned_in_block, mentioned_in_type, mentions_of, names_mentioned, parametric_names, parametrics_mentions, type_if, is_cyclic}
+use Rattle.dslx_meaning.specs.Rules.ModuleRules.{BehindParametrics, behind_next, behind_values, default_if, default_known, default_seen, parameter_seen, parametrics_of, found_of_instance, found_of_item, item_found, no_globals, globals_over, globals_within}
 use Rattle.dslx_meaning.specs.Rules.NodeRules.{arg_pair, expr_pair}
-use Rattle.dslx_core.specs.Typing.TypingRelations.Reached.{AllNamed, EachParametricReaches, InstancesReach, IsClosed, MentionReaches, MentionsReach}
+use Rattle.dslx_core.specs.Typing.TypingRelations.Reached.{AllNamed, DeclarationReaches, InstancesReach, IsClosed, MentionReaches, MentionsReach}
 use Rattle.dslx_core.proofs.OnTyping.OnTyping.Joined.{argument_reaches, block_of_text_reaches, expression_reaches, written_type_reaches}
 use Rattle.dslx_core.proofs.OnTyping.OnTyping.Parts.{constant_reaches, join, parts, three_parts, unmarked}
 
@@ -52,10 +52,14 @@ and_both : (p q : Bool) → (p && q) ≡ true → (p ≡ true) × (q ≡ true)
 and_both true q e = (refl, e)
 and_both false q e = absurd (true≢false (sym e))
 
--- the text of what is known is the text
+-- the text of what is known is the text, and so are its cycles
 pub whole_is : (m : Module) (n : ℕ) → (globals_within m n).whole ≡ m
 whole_is m zero = refl
 whole_is m (suc n) = whole_is m n
+
+pub cyclic_is : (m : Module) (n : ℕ) (owner name : List ℕ) → (globals_within m n).is_cyclic owner name ≡ is_cyclic m owner name
+cyclic_is m zero owner name = refl
+cyclic_is m (suc n) owner name = λ i. is_cyclic (whole_is m n i) owner name
 
 abbrev there : {A : Type 0} → Option A → Bool
 there None = false
@@ -101,25 +105,64 @@ constant_reached : (P : List ℕ → Bool) (known : GlobalEnv) (context : TypeEn
 constant_reached P known context same e bound h =
     unmarked P (span_of (expr_pair e)) (within context (expr_pair e)) (expression_reaches P e bound false context (subst (λ k. MentionsReach P k (expr_if (Some e) bound)) (sym same) h))
 
-pub default_reached : (P : List ℕ → Bool) (known : GlobalEnv) (o : Option Expr) (bound : List (List ℕ)) → MentionsReach P known (expr_if o bound) → (owner : List ℕ) (so_far : List Given) (e : Expr) → o ≡ Some e
-    → AllNamed P ((globals_over known).default_in owner so_far e).judgement.reached
-default_reached P known o bound h owner so_far e q =
-    constant_reached P known (item_type_env known owner so_far) refl e bound (subst (λ x. MentionsReach P known (expr_if x bound)) q h)
+pub default_reached : (P : List ℕ → Bool) (known : GlobalEnv) (o : Option Expr) (bound : List (List ℕ)) → MentionsReach P known (expr_if o bound) → (context : TypeEnv) → context.known ≡ known → (e : Expr) → o ≡ Some e
+    → AllNamed P (default_known context e).judgement.reached
+default_reached P known o bound h context same e q = constant_reached P known context same e bound (subst (λ x. MentionsReach P known (expr_if x bound)) q h)
 
-pub parametrics_reach : (P : List ℕ → Bool) (known : GlobalEnv) (owner : List ℕ) (ps : List Parametric) (bound : List (List ℕ)) → MentionsReach P known (parametrics_mentions ps bound) → EachParametricReaches P (globals_over known) owner ps
-parametrics_reach P known owner [] bound h = tt
-parametrics_reach P known owner (p ∷ ps) bound h =
-    let r = three_parts P known (mentioned_in_type p.ty bound) (expr_if p.default bound) (parametrics_mentions ps (p.name.name ∷ bound)) h in (
-      record {
-        ty = λ so_far. inner_reaches P known (item_type_env known owner so_far) refl p.ty bound r.0;
-        default = λ so_far e q. default_reached P known p.default bound r.1 owner so_far e q;
-      },
-      parametrics_reach P known owner ps (p.name.name ∷ bound) r.2,
-    )
+-- behind some of the parametrics of an item: what is known there, and that those which are left reach such instances
+record LeftReach (P : List ℕ → Bool) (known : GlobalEnv) (b : BehindParametrics) : Type 0 where
+  same : b.context.known ≡ known
+  bound : List (List ℕ)
+  reach : MentionsReach P known (parametrics_mentions b.left bound)
 
-nothing_reached : (P : List ℕ → Bool) (m : Module) (owner : List ℕ) (ps : List Parametric) → EachParametricReaches P (no_globals m) owner ps
-nothing_reached P m owner [] = tt
-nothing_reached P m owner (p ∷ ps) = (record { ty = λ so_far. tt; default = λ so_far e q. tt }, nothing_reached P m owner ps)
+next_reach : (P : List ℕ → Bool) (known : GlobalEnv) (context : TypeEnv) → context.known ≡ known → (left : List Parametric) (bound : List (List ℕ)) → MentionsReach P known (parametrics_mentions left bound) → (v : Option DslxValue)
+    → LeftReach P known (behind_next context left v)
+next_reach P known context same [] bound h v = record { same = same; bound = bound; reach = h }
+next_reach P known context same (p ∷ ps) bound h None = record {
+  same = same;
+  bound = p.name.name ∷ bound;
+  reach = (three_parts P known (mentioned_in_type p.ty bound) (expr_if p.default bound) (parametrics_mentions ps (p.name.name ∷ bound)) h).2;
+}
+next_reach P known context same (p ∷ ps) bound h (Some v) = record {
+  same = same;
+  bound = p.name.name ∷ bound;
+  reach = (three_parts P known (mentioned_in_type p.ty bound) (expr_if p.default bound) (parametrics_mentions ps (p.name.name ∷ bound)) h).2;
+}
+
+left_reach : (P : List ℕ → Bool) (known : GlobalEnv) (owner : List ℕ) → MentionsReach P known (parametrics_mentions (parametrics_of (item_named owner known.whole.items)) []) → (before : List (Option DslxValue))
+    → LeftReach P known (behind_values known owner before)
+left_reach P known owner h [] = record { same = refl; bound = []; reach = h }
+left_reach P known owner h (v ∷ before) =
+    let b = behind_values known owner before in
+    let r = left_reach P known owner h before in
+    next_reach P known b.context r.same b.left r.bound r.reach v
+
+parameter_reaches : (P : List ℕ → Bool) (known : GlobalEnv) (context : TypeEnv) → context.known ≡ known → (left : List Parametric) (bound : List (List ℕ)) → MentionsReach P known (parametrics_mentions left bound)
+    → AllNamed P (parameter_seen context left).reached
+parameter_reaches P known context same [] bound h = tt
+parameter_reaches P known context same (p ∷ ps) bound h =
+    inner_reaches P known context same p.ty bound (three_parts P known (mentioned_in_type p.ty bound) (expr_if p.default bound) (parametrics_mentions ps (p.name.name ∷ bound)) h).0
+
+default_reaches : (P : List ℕ → Bool) (known : GlobalEnv) (context : TypeEnv) → context.known ≡ known → (left : List Parametric) (bound : List (List ℕ)) → MentionsReach P known (parametrics_mentions left bound)
+    → AllNamed P (default_seen context left).judgement.reached
+default_reaches P known context same [] bound h = tt
+default_reaches P known context same (p ∷ ps) bound h = by_default p.default (three_parts P known (mentioned_in_type p.ty bound) (expr_if p.default bound) (parametrics_mentions ps (p.name.name ∷ bound)) h).1
+  where
+    by_default : (o : Option Expr) → MentionsReach P known (expr_if o bound) → AllNamed P (default_if context o).judgement.reached
+    by_default None k = tt
+    by_default (Some e) k = constant_reached P known context same e bound k
+
+pub parametrics_reach : (P : List ℕ → Bool) (known : GlobalEnv) (owner : List ℕ) → MentionsReach P known (parametrics_mentions (parametrics_of (item_named owner known.whole.items)) []) → DeclarationReaches P (globals_over known) owner
+parametrics_reach P known owner h = record {
+  ty = λ before.
+      let b = behind_values known owner before in
+      let r = left_reach P known owner h before in
+      parameter_reaches P known b.context r.same b.left r.bound r.reach;
+  default = λ before.
+      let b = behind_values known owner before in
+      let r = left_reach P known owner h before in
+      default_reaches P known b.context r.same b.left r.bound r.reach;
+}
 
 -- ---- chains of items
 
@@ -131,12 +174,6 @@ mutual_names P m ms u name h = by_use (is_of_use u (item_named name m.items)) re
         → (is_of_use u (item_named name m.items) ≡ true → P name ≡ true) × (list_all P (names_mentioned m ms) ≡ true)
     by_use true q g = let r = and_both (P name) (list_all P (names_mentioned m ms)) g in ((λ e. r.0), r.1)
     by_use false q g = ((λ e. absurd (true≢false (sym e ∙ q))), g)
-
--- the parametrics of an item
-abbrev parametrics_in : Definition → List Parametric
-parametrics_in (d.Function f) = f.parametrics
-parametrics_in (d.Proc p) = p.parametrics
-parametrics_in _ = []
 
 -- what a proc mentions, by its parts
 record ProcMentions (P : List ℕ → Bool) (known : GlobalEnv) (p : Proc) : Type 0 where
@@ -167,7 +204,7 @@ proc_parts P known p h =
 
 -- each item of a name that passes the test has such instances
 abbrev AllReach : (List ℕ → Bool) → Module → GlobalEnv → Type 0
-AllReach P m known = (name : List ℕ) (x : Definition) → item_named name m.items ≡ Some x → P name ≡ true → InstancesReach P known (name_of_definition x) (parametrics_in x)
+AllReach P m known = (name : List ℕ) (x : Definition) → item_named name m.items ≡ Some x → P name ≡ true → InstancesReach P known (name_of_definition x)
 
 -- each function and each proc that is mentioned
 mentions_reach : (P : List ℕ → Bool) (m : Module) (known : GlobalEnv) → known.whole ≡ m → AllReach P m known → (ms : List Mention) → list_all P (names_mentioned m ms) ≡ true → MentionsReach P known ms
@@ -193,7 +230,7 @@ mentions_reach P m known same each (n ∷ ms) h =
 own_mentions : (P : List ℕ → Bool) (m : Module) → IsClosed P m → (name : List ℕ) (x : Definition) → item_named name m.items ≡ Some x → P name ≡ true → list_all P (names_mentioned m (definition_mentions x)) ≡ true
 own_mentions P m closed name x e p = (λ i. list_all P (mentions_of m (sym e i))) ∙ closed name p
 
-own_parametrics : (P : List ℕ → Bool) (known : GlobalEnv) (x : Definition) → MentionsReach P known (definition_mentions x) → MentionsReach P known (parametrics_mentions (parametrics_in x) [])
+own_parametrics : (P : List ℕ → Bool) (known : GlobalEnv) (x : Definition) → MentionsReach P known (definition_mentions x) → MentionsReach P known (parametrics_mentions (parametrics_of (Some x)) [])
 own_parametrics P known (d.Function f) h =
     let parametric_args = parametric_names f.parametrics in
     (three_parts P known (parametrics_mentions f.parametrics []) (fields_mentions f.arguments parametric_args) (type_if f.result parametric_args)
@@ -205,12 +242,16 @@ own_parametrics P known (d.Struct s) h = tt
 own_parametrics P known (d.Enum n) h = tt
 
 all_reach : (P : List ℕ → Bool) (m : Module) → IsClosed P m → (n : ℕ) → AllReach P m (globals_within m n)
-all_reach P m closed zero name x e p = record { own = ap P (item_so_named m.items name x e) ∙ p; parametrics = nothing_reached P m (name_of_definition x) (parametrics_in x) }
-all_reach P m closed (suc n) name x e p = record {
-  own = ap P (item_so_named m.items name x e) ∙ p;
-  parametrics = parametrics_reach P (globals_within m n) (name_of_definition x) (parametrics_in x) [] (own_parametrics P (globals_within m n) x
-      (mentions_reach P m (globals_within m n) (whole_is m n) (all_reach P m closed n) (definition_mentions x) (own_mentions P m closed name x e p)));
-}
+all_reach P m closed zero name x e p = record { own = ap P (item_so_named m.items name x e) ∙ p; declared = record { ty = λ before. tt; default = λ before. tt } }
+all_reach P m closed (suc n) name x e p =
+    let known = globals_within m n in
+    let same = item_so_named m.items name x e in
+    let here : item_named (name_of_definition x) known.whole.items ≡ Some x = (λ i. item_named (same i) (whole_is m n i).items) ∙ e in
+    let mentions = own_parametrics P known x (mentions_reach P m known (whole_is m n) (all_reach P m closed n) (definition_mentions x) (own_mentions P m closed name x e p)) in
+    record {
+      own = ap P same ∙ p;
+      declared = parametrics_reach P known (name_of_definition x) (subst (λ o. MentionsReach P known (parametrics_mentions (parametrics_of o) [])) (sym here) mentions);
+    }
 
 -- ---- instances
 
@@ -295,14 +336,14 @@ found_spawn P context made s bound h =
     seen p = proc_parametric_args context.known p given
 
     cyclic : Proc → List Fault
-    cyclic p = breaks_if (is_cyclic context.known.whole context.owner p.name.name) 3 s.span
+    cyclic p = breaks_if (context.known.is_cyclic context.owner p.name.name) 3 s.span
 
-    by_count : (p : Proc) → InstancesReach P context.known p.name.name p.parametrics → (b : Bool)
+    by_count : (p : Proc) → InstancesReach P context.known p.name.name → (b : Bool)
         → AllNamed P (if b then right_spawn context made s p (cyclic p) (seen p) else only_faults (cyclic p ++ breaks 10 s.span ∷ [])).reached
     by_count p q false = tt
     by_count p q true =
         join P (typing_there (cyclic p) (seen p)).reached (reached_by (is_refused (cyclic p) (seen p)) p.name.name (seen p).values)
-        (typing_reaches P context.known p.name.name [] [] p.parametrics given (cyclic p) q.parametrics) (instance_reached P (is_refused (cyclic p) (seen p)) p.name.name (seen p).values q.own)
+        (typing_reaches P context.known p.name.name [] [] p.parametrics given (cyclic p) q.declared) (instance_reached P (is_refused (cyclic p) (seen p)) p.name.name (seen p).values q.own)
 
     by_proc : (o : Option Proc) → as_proc (item_named s.target.name context.known.whole.items) ≡ o → AllNamed P (spawn_of context made s given o).reached
     by_proc None q = tt

@@ -1,5 +1,5 @@
 -- Instances that a judgement reaches, by those of its parts.
-use Rattle.std.proofs.Common.{◌≡◌, ◌++◌, ℕ, Bool, true, false, if◌then◌else◌, List, [], ◌∷◌, Option, Some, None}
+use Rattle.std.proofs.Common.{◌≡◌, ◌++◌, ℕ, zero, suc, Bool, true, false, if◌then◌else◌, List, [], ◌∷◌, Option, Some, None}
 use Rattle.xb_span.specs.declared.span.Span.{Span}
 use Rattle.xb_span.specs.declared.fault.Fault.{Fault}
 use Rattle.dslx_tree.specs.declared.ident.Ident.{Ident}
@@ -11,7 +11,7 @@ use Rattle.dslx_meaning.specs.Types.{holds_token}
 use Rattle.dslx_meaning.specs.declared.ty.DslxType.{DslxType, out-DslxType}
 use Rattle.dslx_meaning.specs.declared.value.UntypedLiteral.{UntypedLiteral}
 use Rattle.dslx_meaning.specs.declared.value.DslxValue.{DslxValue}
-use Rattle.dslx_meaning.specs.Rules.AggregateRules.{element_in, field_typing, is_some_tuple, pair_alone, range_faults, wanted_faults}
+use Rattle.dslx_meaning.specs.Rules.AggregateRules.{element_in, field_typing, is_some_tuple, pair_alone, pair_or_alone, range_faults, wanted_faults}
 use Rattle.dslx_meaning.specs.Rules.ConstantRules.{ConstantSeen, untyped_typing, constant_of, constant_or_untyped}
 use Rattle.dslx_meaning.specs.Rules.TypeEnvs.{ExprPair, Instance, Judgement, ExprTyping, GlobalEnv, TypeEnv, Typed, alone, untyped_of, breaks, no_token, settled, span_of, typed_in}
 use Rattle.dslx_meaning.specs.Rules.Typings.{ArmSeen, FieldSeen, PatternTyping, TypeExprTyping, StatementTyping}
@@ -53,7 +53,7 @@ unmarked P span j h = by_type j.ty j.faults j.reached j.size h
     by_type None faults reached size k = k
     by_type (Some u) faults reached size k = by_test u faults reached size (holds_token u) k
 
-pub pair_reaches : (P : List ℕ → Bool) (context : TypeEnv) (e : ExprPair) → AllNamed P (e.1 false context).reached → AllNamed P (pair_alone context e).reached
+pair_reaches : (P : List ℕ → Bool) (context : TypeEnv) (e : ExprPair) → AllNamed P (e.1 false context).reached → AllNamed P (pair_alone context e).reached
 pair_reaches P context e h = by_type (e.1 false context).ty (e.1 false context) h
   where
     if_pair : Judgement → Option DslxType → Judgement
@@ -67,6 +67,11 @@ pair_reaches P context e h = by_type (e.1 false context).ty (e.1 false context) 
     by_type : (o : Option DslxType) (j : Judgement) → AllNamed P j.reached → AllNamed P (if_pair j o).reached
     by_type None j k = k
     by_type (Some t) j k = by_test (is_some_tuple (out-DslxType t)) j k
+
+pub taken_reaches : (P : List ℕ → Bool) (k : ℕ) (context : TypeEnv) (e : ExprPair) → AllNamed P (e.1 false context).reached → AllNamed P (pair_or_alone k context e).reached
+taken_reaches P zero context e h = pair_reaches P context e h
+taken_reaches P (suc zero) context e h = pair_reaches P context e h
+taken_reaches P (suc (suc k)) context e h = unmarked P (span_of e) (e.1 false context) h
 
 -- an element of a literal, which may be a number without a type
 abbrev element_by : TypeEnv → Option DslxType → ExprPair → Option UntypedLiteral → Judgement

@@ -81,8 +81,8 @@ pub record ParametricHasValue (known : GlobalEnv) (owner : List ℕ) (p : Parame
   pub means : (so_far : List Given) (t : DslxType) → AreOwn known.items.type_named so_far → (typing_of_type (item_type_env known owner so_far) p.ty).ty ≡ Some t
       → (written_type p.ty (record { items = known.items; bound = so_far }) ≡ Some t) × IsDeclared known.items.type_named t
   pub typed : (so_far : List Given) → AreOwn known.items.type_named so_far → IsWellTypedPart known (typing_of_inner (item_type_env known owner so_far) p.ty) → IsTypeKnown (typing_of_type (item_type_env known owner so_far) p.ty).ty
-  pub default_means : (so_far : List Given) (e : Expr) (v : DslxValue) → (default_known known owner so_far e).value ≡ Some v → value_of e (record { items = known.items; bound = so_far }) ≡ Some v
-  pub default : (so_far : List Given) (e : Expr) → AreOwn known.items.type_named so_far → IsWellTypedPart known (default_known known owner so_far e).judgement → IsDefaultKnown known.items.type_named (default_known known owner so_far e)
+  pub default_means : (so_far : List Given) (e : Expr) (v : DslxValue) → (default_known (item_type_env known owner so_far) e).value ≡ Some v → value_of e (record { items = known.items; bound = so_far }) ≡ Some v
+  pub default : (so_far : List Given) (e : Expr) → AreOwn known.items.type_named so_far → IsWellTypedPart known (default_known (item_type_env known owner so_far) e).judgement → IsDefaultKnown known.items.type_named (default_known (item_type_env known owner so_far) e)
 
 -- an instance of a function has a type of its result, one of the text, and gives a value of it for operands of the types of its
 -- arguments, where its body has a size

@@ -1,14 +1,9 @@
 -- Items of a text on which two global environments agree.
-use Rattle.std.specs.Prelude.{◌≡◌, ℕ, List, [], ◌∷◌, Bool, true, Some}
-use Rattle.dslx_tree.specs.declared.expr.Expr.{Expr}
+use Rattle.std.specs.Prelude.{◌≡◌, ℕ, List, [], ◌∷◌, Bool, true, Option, Some}
 use Rattle.dslx_tree.specs.declared.item.Enum.{Enum}
-use Rattle.dslx_tree.specs.declared.item.Field.{Field}
 use Rattle.dslx_tree.specs.declared.item.Function.{Function}
-use Rattle.dslx_tree.specs.declared.item.Parametric.{Parametric}
-use Rattle.dslx_meaning.specs.Environment.{Given}
 use Rattle.dslx_meaning.specs.Items.{as_enum, as_function, item_named}
 use Rattle.dslx_meaning.specs.declared.value.DslxValue.{DslxValue}
-use Rattle.dslx_meaning.specs.Rules.CallRules.{Before, result_type}
 use Rattle.dslx_meaning.specs.Rules.TypeEnvs.{Instance, GlobalEnv, TypeEnv}
 use Rattle.dslx_meaning.specs.Rules.Mentions.{Use, AsValue, AsPattern, AsType, AsFunction, AsProc, AsEnum, AsStruct, Mention, item_reaches}
 use Rattle.dslx_core.specs.Typing.TypingRelations.Reached.{MentionsReach}
@@ -19,26 +14,15 @@ in_globals context known = record context { known = known }
 
 -- ---- functions
 
--- a parametric: its type and its default are the same by both, whatever is bound of the parametrics before it
-pub record ParametricAlike (a b : GlobalEnv) (owner : List ℕ) (p : Parametric) : Type 0 where
-  pub ty : (so_far : List Given) (unknown : List (List ℕ)) → a.type_in owner so_far unknown p.ty ≡ b.type_in owner so_far unknown p.ty
-  pub seen : (so_far : List Given) → a.type_seen_in owner so_far p.ty ≡ b.type_seen_in owner so_far p.ty
-  pub default : (so_far : List Given) (e : Expr) → p.default ≡ Some e → a.default_in owner so_far e ≡ b.default_in owner so_far e
+-- the types and the defaults of an item's parametrics, and its signature, whatever is known of the parametrics before
+pub record DeclaredAlike (a b : GlobalEnv) (owner : List ℕ) : Type 0 where
+  pub parameter : (before : List (Option DslxValue)) → a.parameter_in owner before ≡ b.parameter_in owner before
+  pub default : (before : List (Option DslxValue)) → a.default_in owner before ≡ b.default_in owner before
+  pub signature : (values : List (Option DslxValue)) → a.signature_in owner values ≡ b.signature_in owner values
 
-abbrev pub EachParametricAlike : GlobalEnv → GlobalEnv → List ℕ → List Parametric → Type 0
-EachParametricAlike a b owner [] = Unit {0}
-EachParametricAlike a b owner (p ∷ ps) = ParametricAlike a b owner p × EachParametricAlike a b owner ps
-
--- the types of arguments
-abbrev pub EachArgumentAlike : GlobalEnv → GlobalEnv → List ℕ → List Field → Type 0
-EachArgumentAlike a b owner [] = Unit {0}
-EachArgumentAlike a b owner (f ∷ fs) = ((bound : List Given) (unknown : List (List ℕ)) → a.type_in owner bound unknown f.ty ≡ b.type_in owner bound unknown f.ty) × EachArgumentAlike a b owner fs
-
--- a function: its parameters, its arguments, its result, and how large its instances are
+-- a function: what it declares, and how large its instances are
 pub record FunctionAlike (a b : GlobalEnv) (f : Function) : Type 0 where
-  pub parametrics : EachParametricAlike a b f.name.name f.parametrics
-  pub arguments : EachArgumentAlike a b f.name.name f.arguments
-  pub result : (bound : Before) → result_type a f.name.name bound f.result ≡ result_type b f.name.name bound f.result
+  pub declared : DeclaredAlike a b f.name.name
   pub size : (parametric_args : List DslxValue) → a.body_size (record { name = f.name.name; parametric_args = parametric_args }) ≡ b.body_size (record { name = f.name.name; parametric_args = parametric_args })
 
 -- a function by its name, and what its calls give
@@ -72,10 +56,11 @@ abbrev pub NamesAlike : GlobalEnv → GlobalEnv → List (List ℕ) → Type 0
 NamesAlike a b [] = Unit {0}
 NamesAlike a b (n ∷ ns) = (a.items.constant n ≡ b.items.constant n) × NamesAlike a b ns
 
--- one text, with the same names of constants; instances whose names pass the test are sound, and unbroken, in both or in neither
+-- one text, with the same names of constants and the same cycles; instances whose names pass the test are sound, and unbroken, in both or in neither
 pub record GlobalsAgree (P : List ℕ → Bool) (a b : GlobalEnv) : Type 0 where
   pub whole : a.whole ≡ b.whole
   pub kinds : (name : List ℕ) → a.items.is_constant name ≡ b.items.is_constant name
+  pub cyclic : (owner name : List ℕ) → a.is_cyclic owner name ≡ b.is_cyclic owner name
   pub sound : (i : Instance) → P i.name ≡ true → a.is_sound i ≡ b.is_sound i
   pub unbroken : (i : Instance) → P i.name ≡ true → a.is_unbroken i ≡ b.is_unbroken i
 

@@ -10,8 +10,8 @@ use Rattle.dslx_meaning.specs.declared.ty.DslxType.{DslxType, Bits, Struct}
 use Rattle.dslx_meaning.specs.declared.value.DslxValue.{DslxValue}
 use Rattle.dslx_meaning.specs.declared.value.DslxValue as value
 use Rattle.dslx_meaning.specs.Rules.ConstantRules.{untyped_typing}
-use Rattle.dslx_meaning.specs.Rules.TypeEnvs.{Judgement, GlobalEnv, breaks}
-use Rattle.dslx_meaning.specs.Rules.ModuleRules.{nowhere}
+use Rattle.dslx_meaning.specs.Rules.TypeEnvs.{Judgement, GlobalEnv, Signature, breaks}
+use Rattle.dslx_meaning.specs.Rules.ModuleRules.{no_signature, nowhere}
 
 -- a struct whose fields are bits of one width
 abbrev pub filler_struct : ℕ → StructItem → DslxType
@@ -42,6 +42,11 @@ member_filler w _ = None
 abbrev pub refused : Judgement
 refused = record untyped_typing { faults = breaks 1 nowhere ∷ [] }
 
+-- a signature without types
+abbrev pub nothing_typed : Option Definition → Signature
+nothing_typed (Some (d.Function f)) = record { arguments = map (λ (a : Field). None) f.arguments; result = None }
+nothing_typed _ = no_signature
+
 -- the items whose names pass as they are; in the place of all others bits of this width, and no sound instances
 abbrev pub filled : ℕ → (List ℕ → Bool) → GlobalEnv → GlobalEnv
 filled w P known = record known {
@@ -54,7 +59,7 @@ filled w P known = record known {
   };
   is_sound = λ i. P i.name && known.is_sound i;
   is_unbroken = λ i. P i.name && known.is_unbroken i;
-  type_in = λ owner so_far unknown t. if P owner then known.type_in owner so_far unknown t else None;
-  type_seen_in = λ owner so_far t. if P owner then known.type_seen_in owner so_far t else refused;
-  default_in = λ owner so_far e. if P owner then known.default_in owner so_far e else record { judgement = refused; value = None };
+  parameter_in = λ owner before. if P owner then known.parameter_in owner before else refused;
+  default_in = λ owner before. if P owner then known.default_in owner before else record { judgement = refused; value = None };
+  signature_in = λ owner values. if P owner then known.signature_in owner values else nothing_typed (item_named owner known.whole.items);
 }

@@ -1,4 +1,4 @@
-ghost use Rattle.std.specs.Prelude.{◌≡◌, [], ℕ, List, false, map, Some};
+ghost use Rattle.std.specs.Prelude.{◌≡◌, [], ℕ, List, Option, false, map, Some};
 ghost use Rattle.dslx_tree.specs.declared.item.Field.{Field};
 ghost use Rattle.dslx_tree.specs.declared.item.Function.{Function};
 ghost use Rattle.dslx_tree.specs.declared.item.Parametric.{Parametric};
@@ -35,7 +35,7 @@ pub fn functions_give_values_of_their_types()
 /// the ones that they denote. Operands that all have types infer the same for both.
 pub fn calls_find_their_parametrics()
     ensures found { (known : GlobalEnv) (items : Meanings) (owner : List ℕ)
-        → (inferred : List Inferred) (maybe : List (List ℕ)) (so_far : List Given) (ps : List Parametric) (gs : List ParametricArgument) (vs ws : List DslxValue)
-        → ParametricsMean known items owner so_far ps → FitParametricArgs known owner so_far ps ws → GivenMean gs vs → (parametric_args_seen known owner inferred maybe (known_before so_far) ps gs).values ≡ Some ws → all_parametric_args items inferred so_far ps vs ≡ Some ws }
+        → (inferred : List Inferred) (maybe : List (List ℕ)) (before : List (Option DslxValue)) (so_far : List Given) (ps : List Parametric) (gs : List ParametricArgument) (vs ws : List DslxValue)
+        → ParametricsMean known items owner before so_far ps → FitParametricArgs known owner before ps ws → GivenMean gs vs → (parametric_args_seen known owner inferred maybe (known_before before) ps gs).values ≡ Some ws → all_parametric_args items inferred so_far ps vs ≡ Some ws }
     ensures inferred { (fs : List Field) (ts : List DslxType) → inferred_by fs (map Some ts) ≡ inferred_from fs ts }
 {}

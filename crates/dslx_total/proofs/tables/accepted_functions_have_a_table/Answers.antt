@@ -20,7 +20,7 @@ returns c m top free plain accepted =
     let can : CanLower (globals_of m) = record {
       complete = c.all_items_are_known.ensures.complete m free plain well_typed;
       typed = c.all_items_are_known.ensures.typed m free plain well_typed;
-      types = λ name f e. types_typing (globals_of m) f ((c.what_is_known_settles.ensures.items m free plain n (suc n) same one_more AsFunction name).function f e);
+      types = λ name f e. types_typing (globals_of m) name f e ((c.what_is_known_settles.ensures.items m free plain n (suc n) same one_more AsFunction name).function f e);
       widths = names_have_widths c.lower_total_expression.ensures.wide m n;
     } in
     let s : IsAccepted m top = record {
