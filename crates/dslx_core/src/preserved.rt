@@ -17,10 +17,10 @@ ghost use Rattle.dslx_core.specs.Typing.Typed.WellTyped.{IsWellTypedEnv};
 /// A well-typed expression, where the type environment is well typed: if it is lowered to a core expression in a scope
 /// where its names are bound at their indices, it has a value, and the core expression has this value without signs and names.
 pub fn lower_preserves_typed_expressions()
-    ensures { (e : Expr) (context : TypeEnv) (place : CoreScope) (calls : Functions) (given : List Given) (bound : Bindings)
-        → IsWellTypedEnv context (env_at place given) → IsWellTypedPart context.known ((expr_pair e).1 false context) → SimulatesInScope place calls given bound
-        → (l : LoweredExpr) → lower_expression e place ≡ Some l
-        → (v : DslxValue) × (value_of e (env_at place given) ≡ Some v) × HasPlainValue l calls bound v }
+    ensures { (e : Expr) (context : TypeEnv) (scope : CoreScope) (calls : Functions) (given : List Given) (bound : Bindings)
+        → IsWellTypedEnv context (env_at scope given) → IsWellTypedPart context.known ((expr_pair e).1 false context) → SimulatesInScope scope calls given bound
+        → (l : LoweredExpr) → lower_expression e scope ≡ Some l
+        → (v : DslxValue) × (value_of e (env_at scope given) ≡ Some v) × HasPlainValue l calls bound v }
 {
     crate::typing::sound::an_expression_has_its_value();
     crate::lowering::lower_preserves_expressions();

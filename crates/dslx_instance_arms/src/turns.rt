@@ -103,7 +103,7 @@ fn begin_turns<'a>(
     from: SignedWord,
     to: SignedWord,
 ) -> Result<bool, AllocError>
-    ensures { IfOk result (λ is. (table : List CoreInstance) → where_true is (Some (body_shown body.new)) ≡ and_then (turn_shaped (scope_in (instance_env_of text.now table) (body_shown body.old)) turns.now index.ty start.ty) (λ t. Some (bound_as t.1.place (doing (LowersBlock (out-For turns.now).body ∷ MakesLoop start from to t.0 t.1.shape ∷ restores (body_shown body.old) ∷ []) (body_shown body.old))))) }
+    ensures { IfOk result (λ is. (table : List CoreInstance) → where_true is (Some (body_shown body.new)) ≡ and_then (turn_shaped (scope_in (instance_env_of text.now table) (body_shown body.old)) turns.now index.ty start.ty) (λ t. Some (bound_as t.1.scope (doing (LowersBlock (out-For turns.now).body ∷ MakesLoop start from to t.0 t.1.shape ∷ restores (body_shown body.old) ∷ []) (body_shown body.old))))) }
 {
     let back = mark_of(body);
     let known = BodyScope {

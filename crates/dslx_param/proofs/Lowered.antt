@@ -65,9 +65,9 @@ ends_with began e body m stands ended =
     record {
       made = here.made;
       is_made = sym (ap (λ (p : Spot). p.made) here.ends);
-      given = sym (ap (λ (p : Spot). p.place.known.parametric_args) here.ends);
-      locals = sym (ap (λ (p : Spot). p.place.locals) here.ends);
-      count = sym (ap (λ (p : Spot). p.place.count) here.ends);
+      given = sym (ap (λ (p : Spot). p.scope.known.parametric_args) here.ends);
+      locals = sym (ap (λ (p : Spot). p.scope.locals) here.ends);
+      count = sym (ap (λ (p : Spot). p.scope.count) here.ends);
       becomes = λ table begins. reached_expression began e body m stands ended table begins ∙ ap last_made (sym (ap (λ (p : Spot). p.made) here.ends));
     }
 

@@ -11,5 +11,5 @@ ghost use Rattle.dslx_scope.specs.WrittenTypes.Seen.{type_sees_a_local};
 /// A written type is lowered to what it denotes where items and parametrics alone are in scope; to nothing if a size in it sees a
 /// local.
 pub fn lower_total_written_types()
-    ensures { (t : TypeExpr) (place : CoreScope) → lower_type_of_text t place ≡ unless_local (type_sees_a_local place t) (written_type t (globals_env place.known)) }
+    ensures { (t : TypeExpr) (scope : CoreScope) → lower_type_of_text t scope ≡ unless_local (type_sees_a_local scope t) (written_type t (globals_env scope.known)) }
 {}

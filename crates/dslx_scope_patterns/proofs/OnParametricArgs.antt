@@ -1,6 +1,6 @@
 -- which names are constants'
 pub mod Constants
--- arguments at their place, one after the other
+-- arguments in their scope, one after the other
 pub mod Located
 -- parametrics that stand, in either order
 pub mod Stands

@@ -2,5 +2,5 @@
 pub mod InOrder
 -- what a pattern becomes, by what stands at its top
 pub mod Opened
--- what it becomes at its place
-pub mod Placed
+-- what it becomes in its scope
+pub mod InScope

@@ -1,2 +1,2 @@
 -- the arguments of an instance in their scope
-pub mod Placed
+pub mod InScope

@@ -15,31 +15,31 @@ use Rattle.dslx_config.proofs.OnConfigs.InOrder.{made_first, missing_first}
 
 -- ---- channels
 
-module _ (place : CoreScope) (part : ConfigStatement) where
-  pub made_channel : (c : Channel) (made : MadeChannel) → part ≡ config_statement.Channel c → lower_channel place c ≡ Some made
-      → (rest : List ConfigStatement) → lower_made place (part ∷ rest) ≡ put_first made (lower_made place rest)
+module _ (scope : CoreScope) (part : ConfigStatement) where
+  pub made_channel : (c : Channel) (made : MadeChannel) → part ≡ config_statement.Channel c → lower_channel scope c ≡ Some made
+      → (rest : List ConfigStatement) → lower_made scope (part ∷ rest) ≡ put_first made (lower_made scope rest)
   made_channel c made is lowered rest =
-      ap (λ (m : ConfigStatement). lower_made place (m ∷ rest)) is ∙ made_first (lower_channel place c) made (lower_made place rest) lowered
+      ap (λ (m : ConfigStatement). lower_made scope (m ∷ rest)) is ∙ made_first (lower_channel scope c) made (lower_made scope rest) lowered
 
-  pub no_channel : (c : Channel) → part ≡ config_statement.Channel c → lower_channel place c ≡ None → (rest : List ConfigStatement) → lower_made place (part ∷ rest) ≡ None
-  no_channel c is lowered rest = ap (λ (m : ConfigStatement). lower_made place (m ∷ rest)) is ∙ missing_first (lower_channel place c) (lower_made place rest) lowered
+  pub no_channel : (c : Channel) → part ≡ config_statement.Channel c → lower_channel scope c ≡ None → (rest : List ConfigStatement) → lower_made scope (part ∷ rest) ≡ None
+  no_channel c is lowered rest = ap (λ (m : ConfigStatement). lower_made scope (m ∷ rest)) is ∙ missing_first (lower_channel scope c) (lower_made scope rest) lowered
 
-  pub spawned : (s : Spawn) → part ≡ config_statement.Spawn s → (rest : List ConfigStatement) → lower_made place (part ∷ rest) ≡ lower_made place rest
-  spawned s is rest = ap (λ (m : ConfigStatement). lower_made place (m ∷ rest)) is
+  pub spawned : (s : Spawn) → part ≡ config_statement.Spawn s → (rest : List ConfigStatement) → lower_made scope (part ∷ rest) ≡ lower_made scope rest
+  spawned s is rest = ap (λ (m : ConfigStatement). lower_made scope (m ∷ rest)) is
 
 -- ---- children
 
-module _ (m : Module) (place : CoreScope) (ends : List Held) (procs : List ProcInstance) (part : ConfigStatement) where
-  pub made_child : (s : Spawn) (child : Child) → part ≡ config_statement.Spawn s → lower_child m place ends procs s ≡ Some child
-      → (rest : List ConfigStatement) → lower_children m place ends procs (part ∷ rest) ≡ put_first child (lower_children m place ends procs rest)
+module _ (m : Module) (scope : CoreScope) (ends : List Held) (procs : List ProcInstance) (part : ConfigStatement) where
+  pub made_child : (s : Spawn) (child : Child) → part ≡ config_statement.Spawn s → lower_child m scope ends procs s ≡ Some child
+      → (rest : List ConfigStatement) → lower_children m scope ends procs (part ∷ rest) ≡ put_first child (lower_children m scope ends procs rest)
   made_child s child is lowered rest =
-      ap (λ (n : ConfigStatement). lower_children m place ends procs (n ∷ rest)) is
-      ∙ made_first (lower_child m place ends procs s) child (lower_children m place ends procs rest) lowered
+      ap (λ (n : ConfigStatement). lower_children m scope ends procs (n ∷ rest)) is
+      ∙ made_first (lower_child m scope ends procs s) child (lower_children m scope ends procs rest) lowered
 
-  pub no_child : (s : Spawn) → part ≡ config_statement.Spawn s → lower_child m place ends procs s ≡ None → (rest : List ConfigStatement) → lower_children m place ends procs (part ∷ rest) ≡ None
+  pub no_child : (s : Spawn) → part ≡ config_statement.Spawn s → lower_child m scope ends procs s ≡ None → (rest : List ConfigStatement) → lower_children m scope ends procs (part ∷ rest) ≡ None
   no_child s is lowered rest =
-      ap (λ (n : ConfigStatement). lower_children m place ends procs (n ∷ rest)) is
-      ∙ missing_first (lower_child m place ends procs s) (lower_children m place ends procs rest) lowered
+      ap (λ (n : ConfigStatement). lower_children m scope ends procs (n ∷ rest)) is
+      ∙ missing_first (lower_child m scope ends procs s) (lower_children m scope ends procs rest) lowered
 
-  pub channel_made : (c : Channel) → part ≡ config_statement.Channel c → (rest : List ConfigStatement) → lower_children m place ends procs (part ∷ rest) ≡ lower_children m place ends procs rest
-  channel_made c is rest = ap (λ (n : ConfigStatement). lower_children m place ends procs (n ∷ rest)) is
+  pub channel_made : (c : Channel) → part ≡ config_statement.Channel c → (rest : List ConfigStatement) → lower_children m scope ends procs (part ∷ rest) ≡ lower_children m scope ends procs rest
+  channel_made c is rest = ap (λ (n : ConfigStatement). lower_children m scope ends procs (n ∷ rest)) is

@@ -55,8 +55,8 @@ abbrev pub StatementMeans : (ExprLowering → ExprLowering) → StmtDen → Type
 StatementMeans s g = (rest : ExprLowering) (r : ValueDen) → LowerPreserves rest r → LowerPreserves (s rest) (g r)
 
 abbrev pub NumberMeans : (CoreScope → Option DslxValue) → ExprDen → Type 0
-NumberMeans l x = (place : CoreScope) (calls : Functions) (given : List Given) (bound : Bindings) → SimulatesInScope place calls given bound → (v : DslxValue) → l place ≡ Some v
-    → (x.value (env_at place given) ≡ Some v) × IsOwn v
+NumberMeans l x = (scope : CoreScope) (calls : Functions) (given : List Given) (bound : Bindings) → SimulatesInScope scope calls given bound → (v : DslxValue) → l scope ≡ Some v
+    → (x.value (env_at scope given) ≡ Some v) × IsOwn v
 
 abbrev pub same : Claims
 same = record {
@@ -117,19 +117,19 @@ den_of ps = map (λ (p : ExprPart). p.1) ps
 abbrev values_at : List ExprPart → Env → List (Option DslxValue)
 values_at ps env = map (λ (m : ExprDen). m.value env) (den_of ps)
 
-each_expr : (ps : List ExprPart) (place : CoreScope) (calls : Functions) (given : List Given) (bound : Bindings) → SimulatesInScope place calls given bound
-    → EachKeeps calls bound (lower_all place (pairs_of ps)) (values_at ps (env_at place given))
-each_expr [] place calls given bound at = tt
-each_expr (p ∷ ps) place calls given bound at = (p.2.1 place calls given bound at, each_expr ps place calls given bound at)
+each_expr : (ps : List ExprPart) (scope : CoreScope) (calls : Functions) (given : List Given) (bound : Bindings) → SimulatesInScope scope calls given bound
+    → EachKeeps calls bound (lower_all scope (pairs_of ps)) (values_at ps (env_at scope given))
+each_expr [] scope calls given bound at = tt
+each_expr (p ∷ ps) scope calls given bound at = (p.2.1 scope calls given bound at, each_expr ps scope calls given bound at)
 
 -- elements, which may be numbers without a type
 abbrev elements_at : List ExprPart → CoreScope → List (Option UntypedLiteral × Option LoweredExpr)
-elements_at ps place = map (λ (e : LoweredPair). ((denotation e.0).bare, e.1 place)) (pairs_of ps)
+elements_at ps scope = map (λ (e : LoweredPair). ((denotation e.0).bare, e.1 scope)) (pairs_of ps)
 
-each_element : (ps : List ExprPart) (place : CoreScope) (calls : Functions) (given : List Given) (bound : Bindings) → SimulatesInScope place calls given bound
-    → EachKeeps calls bound (map (λ (e : Option UntypedLiteral × Option LoweredExpr). e.1) (elements_at ps place)) (values_at ps (env_at place given))
-each_element [] place calls given bound at = tt
-each_element (p ∷ ps) place calls given bound at = (p.2.1 place calls given bound at, each_element ps place calls given bound at)
+each_element : (ps : List ExprPart) (scope : CoreScope) (calls : Functions) (given : List Given) (bound : Bindings) → SimulatesInScope scope calls given bound
+    → EachKeeps calls bound (map (λ (e : Option UntypedLiteral × Option LoweredExpr). e.1) (elements_at ps scope)) (values_at ps (env_at scope given))
+each_element [] scope calls given bound at = tt
+each_element (p ∷ ps) scope calls given bound at = (p.2.1 scope calls given bound at, each_element ps scope calls given bound at)
 
 element_is : (t : DslxType) (env : Env) (m : ExprDen) → element_den t env m ≡ element_by t m.bare (m.value env)
 element_is t env m = by m.bare
@@ -138,16 +138,16 @@ element_is t env m = by m.bare
     by None = refl
     by (Some number) = refl
 
-elements_are : (ps : List ExprPart) (place : CoreScope) (env : Env) (t : DslxType) → map (element_den t env) (den_of ps) ≡ mean_elements t (elements_at ps place) (values_at ps env)
-elements_are [] place env t = refl
-elements_are (p ∷ ps) place env t =
-    λ i. (element_is t env p.1 ∙ ap (λ (m : ExprDen). element_by t m.bare (p.1.value env)) (sym p.2.0)) i ∷ elements_are ps place env t i
+elements_are : (ps : List ExprPart) (scope : CoreScope) (env : Env) (t : DslxType) → map (element_den t env) (den_of ps) ≡ mean_elements t (elements_at ps scope) (values_at ps env)
+elements_are [] scope env t = refl
+elements_are (p ∷ ps) scope env t =
+    λ i. (element_is t env p.1 ∙ ap (λ (m : ExprDen). element_by t m.bare (p.1.value env)) (sym p.2.0)) i ∷ elements_are ps scope env t i
 
-each_number : (ps : List ArgPart) (place : CoreScope) (calls : Functions) (given : List Given) (bound : Bindings) → SimulatesInScope place calls given bound
-    → EachGivesSame (map (λ (a : Arg × Expr). constant_at place a.1) (map (λ (p : ArgPart). p.0) ps)) (map (λ (m : ExprDen). m.value (env_at place given)) (map (λ (p : ArgPart). p.1) ps))
-each_number [] place calls given bound at = tt
-each_number (p ∷ ps) place calls given bound at =
-    (λ v k. sym (ap (λ (m : ExprDen). m.value (env_at place given)) p.2.1) ∙ constant_means place calls given bound at p.0.1 v k, each_number ps place calls given bound at)
+each_number : (ps : List ArgPart) (scope : CoreScope) (calls : Functions) (given : List Given) (bound : Bindings) → SimulatesInScope scope calls given bound
+    → EachGivesSame (map (λ (a : Arg × Expr). constant_at scope a.1) (map (λ (p : ArgPart). p.0) ps)) (map (λ (m : ExprDen). m.value (env_at scope given)) (map (λ (p : ArgPart). p.1) ps))
+each_number [] scope calls given bound at = tt
+each_number (p ∷ ps) scope calls given bound at =
+    (λ v k. sym (ap (λ (m : ExprDen). m.value (env_at scope given)) p.2.1) ∙ constant_means scope calls given bound at p.0.1 v k, each_number ps scope calls given bound at)
 
 each_field : (ps : List FieldPart) → EachFieldMeans (map (λ (f : FieldValue × FieldLowering). f.1) (map (λ (p : FieldPart). p.0) ps)) (map (λ (p : FieldPart). p.1) ps)
 each_field [] = tt
@@ -173,98 +173,98 @@ through : {A : Type 0} (calls : Functions) (bound : Bindings) (o : Option A) (f 
 through calls bound None f g h e k v q = none_some e k
 through calls bound (Some a) f g h e k v q = h a e k v q
 
-number_keeps : (l : CoreScope → Option DslxValue) (x : ExprDen) → NumberMeans l x → LowerPreserves (λ place. and_then (l place) literal) x.value
-number_keeps l x means place calls given bound at e k v g =
-    let w = from_then (l place) literal e k in
-    let is = means place calls given bound at w.0 w.1 in
+number_keeps : (l : CoreScope → Option DslxValue) (x : ExprDen) → NumberMeans l x → LowerPreserves (λ scope. and_then (l scope) literal) x.value
+number_keeps l x means scope calls given bound at e k v g =
+    let w = from_then (l scope) literal e k in
+    let is = means scope calls given bound at w.0 w.1 in
     literal_keeps calls bound w.0 is.1 e w.2 v (sym is.0 ∙ g)
 
 node_means : (x : NodeLevel Parts) → LowerPreserves (lower_node_of x) (den_of_node x).value
-node_means (Node-F.Node::Number n) place calls given bound at = number_keeps n.0.1 n.1 n.2.1 place calls given bound at
-node_means (Node-F.Node::Bool bit) place calls given bound at = bool_keeps calls bound bit
-node_means (Node-F.Node::Array None es dots) place calls given bound at =
-    untyped_keeps calls bound (elements_at es place) (values_at es (env_at place given)) dots (each_element es place calls given bound at) place.count
-node_means (Node-F.Node::Array (Some t) es dots) place calls given bound at =
-    typed_keeps calls bound (t.0.1 place) (t.1 (env_at place given)) (t.2.1 place calls given bound at) (elements_at es place) (values_at es (env_at place given)) dots
-    (array_at (env_at place given) (den_of es) dots) (λ t n. ap (λ os. and_then (all_some os) (filled dots n)) (elements_are es place (env_at place given) t)) (each_element es place calls given bound at) place.count at.count
-node_means (Node-F.Node::Name name) place calls given bound at = name_keeps place calls given bound at name
-node_means (Node-F.Node::Member e a) place calls given bound at = globals_keep calls bound (place.known.items.member e.name a.name) (λ v q. at.known.members e.name a.name v q)
-node_means (Node-F.Call f parametric_args es) place calls given bound at =
-    call_keeps place calls given bound at (kind_of_call f.name) f.name (map (λ (a : Arg × Expr). constant_at place a.1) (map (λ (p : ArgPart). p.0) parametric_args))
-    (map (λ (m : ExprDen). m.value (env_at place given)) (map (λ (p : ArgPart). p.1) parametric_args)) (lower_all place (pairs_of es)) (values_at es (env_at place given)) (each_number parametric_args place calls given bound at)
-    (each_expr es place calls given bound at)
-node_means (Node-F.Node::Tuple es) place calls given bound at = tuple_keeps calls bound (lower_all place (pairs_of es)) (values_at es (env_at place given)) (each_expr es place calls given bound at)
-node_means (Node-F.Struct name fields None) place calls given bound at =
-    through calls bound (place.known.items.struct_named name.name) _ _
-    (λ t. struct_keeps place calls given bound at (map (λ (f : FieldValue × FieldLowering). f.1) (map (λ (p : FieldPart). p.0) fields)) (map (λ (p : FieldPart). p.1) fields) (each_field fields) None (rest_of None) tt (out-DslxType t))
-node_means (Node-F.Struct name fields (Some rest)) place calls given bound at =
-    through calls bound (place.known.items.struct_named name.name) _ _
-    (λ t. struct_keeps place calls given bound at (map (λ (f : FieldValue × FieldLowering). f.1) (map (λ (p : FieldPart). p.0) fields)) (map (λ (p : FieldPart). p.1) fields) (each_field fields)
+node_means (Node-F.Node::Number n) scope calls given bound at = number_keeps n.0.1 n.1 n.2.1 scope calls given bound at
+node_means (Node-F.Node::Bool bit) scope calls given bound at = bool_keeps calls bound bit
+node_means (Node-F.Node::Array None es dots) scope calls given bound at =
+    untyped_keeps calls bound (elements_at es scope) (values_at es (env_at scope given)) dots (each_element es scope calls given bound at) scope.count
+node_means (Node-F.Node::Array (Some t) es dots) scope calls given bound at =
+    typed_keeps calls bound (t.0.1 scope) (t.1 (env_at scope given)) (t.2.1 scope calls given bound at) (elements_at es scope) (values_at es (env_at scope given)) dots
+    (array_at (env_at scope given) (den_of es) dots) (λ t n. ap (λ os. and_then (all_some os) (filled dots n)) (elements_are es scope (env_at scope given) t)) (each_element es scope calls given bound at) scope.count at.count
+node_means (Node-F.Node::Name name) scope calls given bound at = name_keeps scope calls given bound at name
+node_means (Node-F.Node::Member e a) scope calls given bound at = globals_keep calls bound (scope.known.items.member e.name a.name) (λ v q. at.known.members e.name a.name v q)
+node_means (Node-F.Call f parametric_args es) scope calls given bound at =
+    call_keeps scope calls given bound at (kind_of_call f.name) f.name (map (λ (a : Arg × Expr). constant_at scope a.1) (map (λ (p : ArgPart). p.0) parametric_args))
+    (map (λ (m : ExprDen). m.value (env_at scope given)) (map (λ (p : ArgPart). p.1) parametric_args)) (lower_all scope (pairs_of es)) (values_at es (env_at scope given)) (each_number parametric_args scope calls given bound at)
+    (each_expr es scope calls given bound at)
+node_means (Node-F.Node::Tuple es) scope calls given bound at = tuple_keeps calls bound (lower_all scope (pairs_of es)) (values_at es (env_at scope given)) (each_expr es scope calls given bound at)
+node_means (Node-F.Struct name fields None) scope calls given bound at =
+    through calls bound (scope.known.items.struct_named name.name) _ _
+    (λ t. struct_keeps scope calls given bound at (map (λ (f : FieldValue × FieldLowering). f.1) (map (λ (p : FieldPart). p.0) fields)) (map (λ (p : FieldPart). p.1) fields) (each_field fields) None (rest_of None) tt (out-DslxType t))
+node_means (Node-F.Struct name fields (Some rest)) scope calls given bound at =
+    through calls bound (scope.known.items.struct_named name.name) _ _
+    (λ t. struct_keeps scope calls given bound at (map (λ (f : FieldValue × FieldLowering). f.1) (map (λ (p : FieldPart). p.0) fields)) (map (λ (p : FieldPart). p.1) fields) (each_field fields)
     (Some rest.0.1) (rest_of (Some rest.1)) rest.2.1 (out-DslxType t))
-node_means (Node-F.Block block) place calls given bound at = block.2.1 place calls given bound at
-node_means (Node-F.If test taken other) place calls given bound at =
-    choice_keeps calls bound (test.0.1 place) (taken.0.1 place) (other.0.1 place) (test.1.value (env_at place given)) (taken.1 (env_at place given)) (other.1.value (env_at place given))
-    (test.2.1 place calls given bound at) (taken.2.1 place calls given bound at) (other.2.1 place calls given bound at)
-node_means (Node-F.Match e arms) place calls given bound at =
-    match_keeps place calls given bound at (e.0.1 place) (e.1.value (env_at place given)) (e.2.1 place calls given bound at) (map (λ (a : Arm × ArmLowering). a.1) (map (λ (p : ArmPart). p.0) arms)) (map (λ (p : ArmPart). p.1) arms)
+node_means (Node-F.Block block) scope calls given bound at = block.2.1 scope calls given bound at
+node_means (Node-F.If test taken other) scope calls given bound at =
+    choice_keeps calls bound (test.0.1 scope) (taken.0.1 scope) (other.0.1 scope) (test.1.value (env_at scope given)) (taken.1 (env_at scope given)) (other.1.value (env_at scope given))
+    (test.2.1 scope calls given bound at) (taken.2.1 scope calls given bound at) (other.2.1 scope calls given bound at)
+node_means (Node-F.Match e arms) scope calls given bound at =
+    match_keeps scope calls given bound at (e.0.1 scope) (e.1.value (env_at scope given)) (e.2.1 scope calls given bound at) (map (λ (a : Arm × ArmLowering). a.1) (map (λ (p : ArmPart). p.0) arms)) (map (λ (p : ArmPart). p.1) arms)
     (each_arm arms)
-node_means (Node-F.For loop) place calls given bound at = loop.2.1 place calls given bound at
-node_means (Node-F.Index e i) place calls given bound at =
-    index_keeps calls bound (e.0.1 place) (i.0.1 place) (e.1.value (env_at place given)) (i.1.value (env_at place given)) (e.2.1 place calls given bound at) (i.2.1 place calls given bound at)
-node_means (Node-F.Slice e low high) place calls given bound at =
-    slice_keeps calls bound (e.0.1 place) (e.1.value (env_at place given)) _ _ _ _ (λ k q. ap (λ m. bound_of m (env_at place given)) (sym low.2.0) ∙ bound_means place calls given bound at low.0.0 k q)
-    (λ k q. ap (λ m. bound_of m (env_at place given)) (sym high.2.0) ∙ bound_means place calls given bound at high.0.0 k q) (e.2.1 place calls given bound at)
-node_means (Node-F.Part e start t) place calls given bound at =
-    bits_part_keeps calls bound (e.0.1 place) (start.0.1 place) (e.1.value (env_at place given)) (start.1.value (env_at place given)) (t.0.1 place) (t.1 (env_at place given)) (t.2.1 place calls given bound at)
-    (e.2.1 place calls given bound at) (start.2.1 place calls given bound at)
-node_means (Node-F.Field e name) place calls given bound at = field_keeps calls bound (e.0.1 place) (e.1.value (env_at place given)) name.name (e.2.1 place calls given bound at)
-node_means (Node-F.Element e span k) place calls given bound at = element_keeps calls bound (e.0.1 place) (e.1.value (env_at place given)) k (e.2.1 place calls given bound at)
-node_means (Node-F.Prefix o e) place calls given bound at = prefix_keeps calls bound o (e.0.1 place) (e.1.value (env_at place given)) (e.2.1 place calls given bound at)
-node_means (Node-F.Cast e t) place calls given bound at =
-    cast_keeps calls bound (e.0.1 place) (e.1.value (env_at place given)) (t.0.1 place) (t.1 (env_at place given)) (t.2.1 place calls given bound at) (e.2.1 place calls given bound at)
-node_means (Node-F.Binary o l r) place calls given bound at =
-    binary_keeps calls bound o (l.0.1 place) (r.0.1 place) (l.1.value (env_at place given)) (r.1.value (env_at place given)) (l.2.1 place calls given bound at) (r.2.1 place calls given bound at)
+node_means (Node-F.For loop) scope calls given bound at = loop.2.1 scope calls given bound at
+node_means (Node-F.Index e i) scope calls given bound at =
+    index_keeps calls bound (e.0.1 scope) (i.0.1 scope) (e.1.value (env_at scope given)) (i.1.value (env_at scope given)) (e.2.1 scope calls given bound at) (i.2.1 scope calls given bound at)
+node_means (Node-F.Slice e low high) scope calls given bound at =
+    slice_keeps calls bound (e.0.1 scope) (e.1.value (env_at scope given)) _ _ _ _ (λ k q. ap (λ m. bound_of m (env_at scope given)) (sym low.2.0) ∙ bound_means scope calls given bound at low.0.0 k q)
+    (λ k q. ap (λ m. bound_of m (env_at scope given)) (sym high.2.0) ∙ bound_means scope calls given bound at high.0.0 k q) (e.2.1 scope calls given bound at)
+node_means (Node-F.Part e start t) scope calls given bound at =
+    bits_part_keeps calls bound (e.0.1 scope) (start.0.1 scope) (e.1.value (env_at scope given)) (start.1.value (env_at scope given)) (t.0.1 scope) (t.1 (env_at scope given)) (t.2.1 scope calls given bound at)
+    (e.2.1 scope calls given bound at) (start.2.1 scope calls given bound at)
+node_means (Node-F.Field e name) scope calls given bound at = field_keeps calls bound (e.0.1 scope) (e.1.value (env_at scope given)) name.name (e.2.1 scope calls given bound at)
+node_means (Node-F.Element e span k) scope calls given bound at = element_keeps calls bound (e.0.1 scope) (e.1.value (env_at scope given)) k (e.2.1 scope calls given bound at)
+node_means (Node-F.Prefix o e) scope calls given bound at = prefix_keeps calls bound o (e.0.1 scope) (e.1.value (env_at scope given)) (e.2.1 scope calls given bound at)
+node_means (Node-F.Cast e t) scope calls given bound at =
+    cast_keeps calls bound (e.0.1 scope) (e.1.value (env_at scope given)) (t.0.1 scope) (t.1 (env_at scope given)) (t.2.1 scope calls given bound at) (e.2.1 scope calls given bound at)
+node_means (Node-F.Binary o l r) scope calls given bound at =
+    binary_keeps calls bound o (l.0.1 scope) (r.0.1 scope) (l.1.value (env_at scope given)) (r.1.value (env_at scope given)) (l.2.1 scope calls given bound at) (r.2.1 scope calls given bound at)
 
 -- ---- types and patterns
 
 type_means : (x : TypeNodeLevel Parts) → TypeLowerPreserves (becoming.type_node (map_type_node Parts become (firsts become meanings (claimed same)) x)).1 (meaning.type_node (map_type_node Parts meanings (seconds become meanings (claimed same)) x))
-type_means (TypeNode-F.Bits s w) place calls given bound at t k = k
-type_means (TypeNode-F.Wide s e) place calls given bound at t k = wide_means s e.0.0 e.1 e.2.0 place calls given bound at t k
-type_means TypeNode-F.TypeNode::Bool place calls given bound at t k = k
-type_means (TypeNode-F.TypeNode::Name name) place calls given bound at t k = k
-type_means (TypeNode-F.TypeNode::Tuple ts) place calls given bound at t k =
-    tuple_means (map (λ (t : TypeExpr × TypeLowering). t.1) (map (λ (p : TypePart). p.0) ts)) (map (λ (p : TypePart). p.1) ts) (each_type ts) place calls given bound at t (ap (λ os. and_then (all_some os) (λ ts. Some (ty.Tuple ts))) (sym (map_twice ts place)) ∙ k)
+type_means (TypeNode-F.Bits s w) scope calls given bound at t k = k
+type_means (TypeNode-F.Wide s e) scope calls given bound at t k = wide_means s e.0.0 e.1 e.2.0 scope calls given bound at t k
+type_means TypeNode-F.TypeNode::Bool scope calls given bound at t k = k
+type_means (TypeNode-F.TypeNode::Name name) scope calls given bound at t k = k
+type_means (TypeNode-F.TypeNode::Tuple ts) scope calls given bound at t k =
+    tuple_means (map (λ (t : TypeExpr × TypeLowering). t.1) (map (λ (p : TypePart). p.0) ts)) (map (λ (p : TypePart). p.1) ts) (each_type ts) scope calls given bound at t (ap (λ os. and_then (all_some os) (λ ts. Some (ty.Tuple ts))) (sym (map_twice ts scope)) ∙ k)
   where
-    map_twice : (ts : List TypePart) (place : CoreScope) → map (λ (t : TypeExpr × TypeLowering). t.1 place) (map (λ (p : TypePart). p.0) ts) ≡ map (λ (l : TypeLowering). l place) (map (λ (t : TypeExpr × TypeLowering). t.1) (map (λ (p : TypePart). p.0) ts))
-    map_twice [] place = refl
-    map_twice (t ∷ ts) place = ap (λ os. t.0.1 place ∷ os) (map_twice ts place)
-type_means (TypeNode-F.TypeNode::Array t e) place calls given bound at u k = array_means t.0.1 t.1 e.0.0 e.1 t.2.1 e.2.0 place calls given bound at u k
+    map_twice : (ts : List TypePart) (scope : CoreScope) → map (λ (t : TypeExpr × TypeLowering). t.1 scope) (map (λ (p : TypePart). p.0) ts) ≡ map (λ (l : TypeLowering). l scope) (map (λ (t : TypeExpr × TypeLowering). t.1) (map (λ (p : TypePart). p.0) ts))
+    map_twice [] scope = refl
+    map_twice (t ∷ ts) scope = ap (λ os. t.0.1 scope ∷ os) (map_twice ts scope)
+type_means (TypeNode-F.TypeNode::Array t e) scope calls given bound at u k = array_means t.0.1 t.1 e.0.0 e.1 t.2.1 e.2.0 scope calls given bound at u k
 
 -- a number as a pattern
-number_fits : (l : CoreScope → Option DslxValue) (x : ExprDen) → NumberMeans l x → PartFits (λ outer place t. value_shape (l outer) place t) (λ outer v env. fit_value (x.value outer) v env)
-number_fits l x means outer place t s e calls around others out given bound at v of =
-    let w = from_then (l outer) (λ v. where_true (equal_type t (type_of_value v)) (shaped (shape.Equal (plain_value v)) place)) s e in
+number_fits : (l : CoreScope → Option DslxValue) (x : ExprDen) → NumberMeans l x → PartFits (λ outer scope t. value_shape (l outer) scope t) (λ outer v env. fit_value (x.value outer) v env)
+number_fits l x means outer scope t s e calls around others out given bound at v of =
+    let w = from_then (l outer) (λ v. where_true (equal_type t (type_of_value v)) (shaped (shape.Equal (plain_value v)) scope)) s e in
     let is = means outer calls around others out w.0 w.1 in
-    subst (λ o. FitLowerPreserves s.place calls (fit_value o v (env_at place given)) (taken_apart s.shape (plain_value v) bound)) (w.1 ∙ sym is.0)
-    (one_value_fits (l outer) place t s e (λ y q. subst IsOwn (same_some w.0 y (sym w.1 ∙ q)) is.1) calls given bound at v of)
+    subst (λ o. FitLowerPreserves s.scope calls (fit_value o v (env_at scope given)) (taken_apart s.shape (plain_value v) bound)) (w.1 ∙ sym is.0)
+    (one_value_fits (l outer) scope t s e (λ y q. subst IsOwn (same_some w.0 y (sym w.1 ∙ q)) is.1) calls given bound at v of)
 
 shape_means : (x : ShapeLevel Parts) → PatternLowerPreserves (becoming.shape (map_shape Parts become (firsts become meanings (claimed same)) x)).1 (meaning.shape (map_shape Parts meanings (seconds become meanings (claimed same)) x))
-shape_means Shape-F.Wild = record { names = refl; fits = λ outer place t s e calls around others out. wild_fits place t s e calls; bare = wild_bare [] }
+shape_means Shape-F.Wild = record { names = refl; fits = λ outer scope t s e calls around others out. wild_fits scope t s e calls; bare = wild_bare [] }
 shape_means (Shape-F.Shape::Bool b) = record {
   names = refl;
-  fits = λ outer place t s e calls around others out given bound at v of. one_value_fits (Some (bool_value b)) place t s e (λ x q. subst IsOwn (same_some (bool_value b) x q) (bool_own b)) calls given bound at v of;
-  bare = λ outer place t s e all. one_value_bare (Some (bool_value b)) place t s e;
+  fits = λ outer scope t s e calls around others out given bound at v of. one_value_fits (Some (bool_value b)) scope t s e (λ x q. subst IsOwn (same_some (bool_value b) x q) (bool_own b)) calls given bound at v of;
+  bare = λ outer scope t s e all. one_value_bare (Some (bool_value b)) scope t s e;
 }
 shape_means (Shape-F.Shape::Number n) = record {
   names = refl;
   fits = number_fits n.0.1 n.1 n.2.1;
-  bare = λ outer place t s e all. one_value_bare (n.0.1 outer) place t s e;
+  bare = λ outer scope t s e all. one_value_bare (n.0.1 outer) scope t s e;
 }
-shape_means (Shape-F.Shape::Name name) = record { names = refl; fits = λ outer place t s e calls around others out. name_fits name place t s e calls; bare = name_bare name }
+shape_means (Shape-F.Shape::Name name) = record { names = refl; fits = λ outer scope t s e calls around others out. name_fits name scope t s e calls; bare = name_bare name }
 shape_means (Shape-F.Shape::Member e a) = record {
   names = refl;
-  fits = λ outer place t s k calls around others out given bound at v of. one_value_fits (place.known.items.member e.name a.name) place t s k (λ x q. at.known.members e.name a.name x q) calls given bound at v of;
-  bare = λ outer place t s k all. one_value_bare (place.known.items.member e.name a.name) place t s k;
+  fits = λ outer scope t s k calls around others out given bound at v of. one_value_fits (scope.known.items.member e.name a.name) scope t s k (λ x q. at.known.members e.name a.name x q) calls given bound at v of;
+  bare = λ outer scope t s k all. one_value_bare (scope.known.items.member e.name a.name) scope t s k;
 }
 shape_means (Shape-F.Shape::Tuple ps) =
     let ls = second_parts (map (λ (p : PatternPart). p.0) ps) in
@@ -294,21 +294,21 @@ block_means x = by_value x.value
     by_value : (o : Option ExprPart)
         → LowerPreserves (becoming.block (map_block Parts become (firsts become meanings (claimed same)) (record { span = x.span; statements = x.statements; value = o }))).1
         (meaning.block (map_block Parts meanings (seconds become meanings (claimed same)) (record { span = x.span; statements = x.statements; value = o })))
-    by_value None = statements_mean x.statements (lower_last_value None) (last_den None) (λ place calls given bound at. unit_keeps calls bound)
+    by_value None = statements_mean x.statements (lower_last_value None) (last_den None) (λ scope calls given bound at. unit_keeps calls bound)
     by_value (Some e) = statements_mean x.statements (lower_last_value (Some e.0)) (last_den (Some e.1)) e.2.1
 
 -- ---- loops, numbers and fields
 
 loop_means : (x : ForLevel Parts) → LowerPreserves (becoming.loop (map_loop Parts become (firsts become meanings (claimed same)) x)).1 (meaning.loop (map_loop Parts meanings (seconds become meanings (claimed same)) x))
-loop_means x place calls given bound at =
-    loop_keeps place calls given bound at (x.start.0.1 place) (x.from.0.1 place) (x.start.1.value (env_at place given)) (x.from.1.value (env_at place given)) (x.to.1.value (env_at place given))
-    (and_then (constant_at place x.from.0.0) bits_of) (and_then (constant_at place x.to.0.0) bits_of) (bits_mean x.from) (bits_mean x.to) (x.start.2.1 place calls given bound at) (x.from.2.1 place calls given bound at)
+loop_means x scope calls given bound at =
+    loop_keeps scope calls given bound at (x.start.0.1 scope) (x.from.0.1 scope) (x.start.1.value (env_at scope given)) (x.from.1.value (env_at scope given)) (x.to.1.value (env_at scope given))
+    (and_then (constant_at scope x.from.0.0) bits_of) (and_then (constant_at scope x.to.0.0) bits_of) (bits_mean x.from) (bits_mean x.to) (x.start.2.1 scope calls given bound at) (x.from.2.1 scope calls given bound at)
     x.index.0.1 x.accumulator.0.1 x.index.1 x.accumulator.1 x.index.2.1 x.accumulator.2.1 x.body.0.1 x.body.1 x.body.2.1
   where
-    bits_mean : (p : ExprPart) (w : SignedWord) → and_then (constant_at place p.0.0) bits_of ≡ Some w → and_then (p.1.value (env_at place given)) bits_of ≡ Some w
+    bits_mean : (p : ExprPart) (w : SignedWord) → and_then (constant_at scope p.0.0) bits_of ≡ Some w → and_then (p.1.value (env_at scope given)) bits_of ≡ Some w
     bits_mean p w k =
-        let v = from_then (constant_at place p.0.0) bits_of w k in
-        ap (λ o. and_then o bits_of) (sym (ap (λ (m : ExprDen). m.value (env_at place given)) p.2.0) ∙ constant_means place calls given bound at p.0.0 v.0 v.1) ∙ v.2
+        let v = from_then (constant_at scope p.0.0) bits_of w k in
+        ap (λ o. and_then o bits_of) (sym (ap (λ (m : ExprDen). m.value (env_at scope given)) p.2.0) ∙ constant_means scope calls given bound at p.0.0 v.0 v.1) ∙ v.2
 
 number_means : (x : NumberLevel Parts) → NumberMeans (becoming.number (map_number Parts become (firsts become meanings (claimed same)) x)).1 (meaning.number (map_number Parts meanings (seconds become meanings (claimed same)) x))
 number_means x = by_type x.ty
@@ -316,11 +316,11 @@ number_means x = by_type x.ty
     by_type : (o : Option TypePart)
         → NumberMeans (becoming.number (map_number Parts become (firsts become meanings (claimed same)) (record { ty = o; is_negative = x.is_negative; value = x.value }))).1
         (meaning.number (map_number Parts meanings (seconds become meanings (claimed same)) (record { ty = o; is_negative = x.is_negative; value = x.value })))
-    by_type None place calls given bound at v k = none_some v k
-    by_type (Some t) place calls given bound at v k =
+    by_type None scope calls given bound at v k = none_some v k
+    by_type (Some t) scope calls given bound at v k =
         let number : UntypedLiteral = record { is_negative = x.is_negative; value = x.value } in
-        let u = from_then (t.0.1 place) (λ t. number_value t number) v k in
-        (ap (λ o. and_then o (λ t. number_value t number)) (t.2.1 place calls given bound at u.0 u.1) ∙ u.2, number_own u.0 number v u.2)
+        let u = from_then (t.0.1 scope) (λ t. number_value t number) v k in
+        (ap (λ o. and_then o (λ t. number_value t number)) (t.2.1 scope calls given bound at u.0 u.1) ∙ u.2, number_own u.0 number v u.2)
 
 field_means : (x : FieldValueLevel Parts) → FieldLowerPreserves (becoming.field (map_field Parts become (firsts become meanings (claimed same)) x)).1 (meaning.field (map_field Parts meanings (seconds become meanings (claimed same)) x))
 field_means x = by_value x.value
@@ -328,7 +328,7 @@ field_means x = by_value x.value
     by_value : (o : Option ExprPart)
         → FieldLowerPreserves (becoming.field (map_field Parts become (firsts become meanings (claimed same)) (record { name = x.name; value = o }))).1
         (meaning.field (map_field Parts meanings (seconds become meanings (claimed same)) (record { name = x.name; value = o })))
-    by_value None = record { name = refl; value = λ place calls given bound at. name_keeps place calls given bound at x.name.name }
+    by_value None = record { name = refl; value = λ scope calls given bound at. name_keeps scope calls given bound at x.name.name }
     by_value (Some e) = record { name = refl; value = e.2.1 }
 
 -- ---- the whole

@@ -210,38 +210,38 @@ is_written field (f ∷ fs) (m ∷ ms) h =
     by_test true rest = Written f.value m.value refl refl h.0.value
     by_test false rest = rest
 
-field_keeps_value : (place : CoreScope) (calls : Functions) (given : List Given) (bound : Bindings) → SimulatesInScope place calls given bound → (fs : List FieldLowering) (ms : List FieldDen) → EachFieldMeans fs ms
+field_keeps_value : (scope : CoreScope) (calls : Functions) (given : List Given) (bound : Bindings) → SimulatesInScope scope calls given bound → (fs : List FieldLowering) (ms : List FieldDen) → EachFieldMeans fs ms
     → (others : Option LoweredExpr) (rest : Option DslxValue) → ((field : List ℕ) → KeepsValue calls bound (lower_field others field) (field_from field rest)) → (field : List ℕ)
-    → KeepsValue calls bound (field_or_other place others field (value_written field fs)) (field_given (env_at place given) rest field (field_written field ms))
-field_keeps_value place calls given bound at fs ms h others rest from field = by_written (value_written field fs) (field_written field ms) (is_written field fs ms h)
+    → KeepsValue calls bound (field_or_other scope others field (value_written field fs)) (field_given (env_at scope given) rest field (field_written field ms))
+field_keeps_value scope calls given bound at fs ms h others rest from field = by_written (value_written field fs) (field_written field ms) (is_written field fs ms h)
   where
-    by_written : (o : Option ExprLowering) (p : Option ValueDen) → IsWritten o p → KeepsValue calls bound (field_or_other place others field o) (field_given (env_at place given) rest field p)
+    by_written : (o : Option ExprLowering) (p : Option ValueDen) → IsWritten o p → KeepsValue calls bound (field_or_other scope others field o) (field_given (env_at scope given) rest field p)
     by_written o p (Written l m lo po means) e k v g =
-        means place calls given bound at e (sym (ap (field_or_other place others field) lo) ∙ k) v (sym (ap (field_given (env_at place given) rest field) po) ∙ g)
+        means scope calls given bound at e (sym (ap (field_or_other scope others field) lo) ∙ k) v (sym (ap (field_given (env_at scope given) rest field) po) ∙ g)
     by_written o p (Unwritten lo po) e k v g =
-        from field e (sym (ap (field_or_other place others field) lo) ∙ k) v (sym (ap (field_given (env_at place given) rest field) po) ∙ g)
+        from field e (sym (ap (field_or_other scope others field) lo) ∙ k) v (sym (ap (field_given (env_at scope given) rest field) po) ∙ g)
 
 -- the fields in order
 record FieldsHave (calls : Functions) (bound : Bindings) (es : List LoweredExpr) (ts : List DslxType) (vs : List DslxValue) : Type 0 where
   pub have : AllHave calls bound es vs
   pub typed : types_of_lowered es ≡ ts
 
-fields_have : (place : CoreScope) (calls : Functions) (given : List Given) (bound : Bindings) → SimulatesInScope place calls given bound → (fs : List FieldLowering) (ms : List FieldDen) → EachFieldMeans fs ms
+fields_have : (scope : CoreScope) (calls : Functions) (given : List Given) (bound : Bindings) → SimulatesInScope scope calls given bound → (fs : List FieldLowering) (ms : List FieldDen) → EachFieldMeans fs ms
     → (others : Option LoweredExpr) (rest : Option DslxValue) → ((field : List ℕ) → KeepsValue calls bound (lower_field others field) (field_from field rest))
-    → (fields : List (List ℕ)) (ts : List DslxType) (es : List LoweredExpr) (vs : List DslxValue) → lower_fields place fs others fields ts ≡ Some es
-    → EachThere (map (λ field. field_given (env_at place given) rest field (field_written field ms)) fields) vs → FieldsHave calls bound es ts vs
-fields_have place calls given bound at fs ms h others rest from [] (t ∷ ts) es vs k there = none_some es k
-fields_have place calls given bound at fs ms h others rest from (field ∷ fields) [] es vs k there = none_some es k
-fields_have place calls given bound at fs ms h others rest from [] [] es (v ∷ vs) k there = absurd there
-fields_have place calls given bound at fs ms h others rest from [] [] es [] k there = subst (λ x. FieldsHave calls bound x [] []) (same_some [] es k) (record { have = tt; typed = refl })
-fields_have place calls given bound at fs ms h others rest from (field ∷ fields) (t ∷ ts) es [] k there = absurd there
-fields_have place calls given bound at fs ms h others rest from (field ∷ fields) (t ∷ ts) es (v ∷ vs) k there =
-    let q = from_both (of_type t (field_or_other place others field (value_written field fs))) (lower_fields place fs others fields ts) (λ e es. Some (e ∷ es)) es k in
-    let c = of_its_type t (field_or_other place others field (value_written field fs)) q.0 q.2 in
-    let more = fields_have place calls given bound at fs ms h others rest from fields ts q.1 vs q.3 there.1 in
+    → (fields : List (List ℕ)) (ts : List DslxType) (es : List LoweredExpr) (vs : List DslxValue) → lower_fields scope fs others fields ts ≡ Some es
+    → EachThere (map (λ field. field_given (env_at scope given) rest field (field_written field ms)) fields) vs → FieldsHave calls bound es ts vs
+fields_have scope calls given bound at fs ms h others rest from [] (t ∷ ts) es vs k there = none_some es k
+fields_have scope calls given bound at fs ms h others rest from (field ∷ fields) [] es vs k there = none_some es k
+fields_have scope calls given bound at fs ms h others rest from [] [] es (v ∷ vs) k there = absurd there
+fields_have scope calls given bound at fs ms h others rest from [] [] es [] k there = subst (λ x. FieldsHave calls bound x [] []) (same_some [] es k) (record { have = tt; typed = refl })
+fields_have scope calls given bound at fs ms h others rest from (field ∷ fields) (t ∷ ts) es [] k there = absurd there
+fields_have scope calls given bound at fs ms h others rest from (field ∷ fields) (t ∷ ts) es (v ∷ vs) k there =
+    let q = from_both (of_type t (field_or_other scope others field (value_written field fs))) (lower_fields scope fs others fields ts) (λ e es. Some (e ∷ es)) es k in
+    let c = of_its_type t (field_or_other scope others field (value_written field fs)) q.0 q.2 in
+    let more = fields_have scope calls given bound at fs ms h others rest from fields ts q.1 vs q.3 there.1 in
     subst (λ x. FieldsHave calls bound x (t ∷ ts) (v ∷ vs)) (same_some (q.0 ∷ q.1) es q.4)
     (record {
-      have = (field_keeps_value place calls given bound at fs ms h others rest from field q.0 c.0 v there.0, more.have);
+      have = (field_keeps_value scope calls given bound at fs ms h others rest from field q.0 c.0 v there.0, more.have);
       typed = λ i. sym c.1 i ∷ more.typed i;
     })
 
@@ -261,17 +261,17 @@ struct_kept calls bound name fields ts es vs h = record {
 }
 
 -- without a value that gives the others
-without_keeps : (place : CoreScope) (calls : Functions) (given : List Given) (bound : Bindings) → SimulatesInScope place calls given bound → (fs : List FieldLowering) (ms : List FieldDen) → EachFieldMeans fs ms
+without_keeps : (scope : CoreScope) (calls : Functions) (given : List Given) (bound : Bindings) → SimulatesInScope scope calls given bound → (fs : List FieldLowering) (ms : List FieldDen) → EachFieldMeans fs ms
     → (rest : Option DslxValue) (name : List ℕ) (fields : List (List ℕ)) (ts : List DslxType)
-    → KeepsValue calls bound (without_others place fs (ty.Struct name fields ts) fields ts) (struct_at (env_at place given) ms rest (DslxType-F.Struct name fields ts))
-without_keeps place calls given bound at fs ms h rest name fields ts e k v g =
-    let es = from_then (lower_fields place fs None fields ts) (λ es. lowered (core.Tuple (cores_of es)) (ty.Struct name fields ts)) e k in
-    let vs = from_then (all_some (map (λ field. field_given (env_at place given) rest field (field_written field ms)) fields)) (λ vs. Some (value.Struct name fields vs)) v g in
+    → KeepsValue calls bound (without_others scope fs (ty.Struct name fields ts) fields ts) (struct_at (env_at scope given) ms rest (DslxType-F.Struct name fields ts))
+without_keeps scope calls given bound at fs ms h rest name fields ts e k v g =
+    let es = from_then (lower_fields scope fs None fields ts) (λ es. lowered (core.Tuple (cores_of es)) (ty.Struct name fields ts)) e k in
+    let vs = from_then (all_some (map (λ field. field_given (env_at scope given) rest field (field_written field ms)) fields)) (λ vs. Some (value.Struct name fields vs)) v g in
     value_as calls bound e (value.Struct name fields vs.0) v vs.2
     (kept_as calls bound (value.Struct name fields vs.0) (record { core = core.Tuple (cores_of es.0); ty = ty.Struct name fields ts }) e es.2
     (struct_kept calls bound name fields ts es.0 vs.0
-    (fields_have place calls given bound at fs ms h None rest (λ field c q. none_some c q) fields ts es.0 vs.0 es.1
-    (each_there (map (λ field. field_given (env_at place given) rest field (field_written field ms)) fields) vs.0 vs.1))))
+    (fields_have scope calls given bound at fs ms h None rest (λ field c q. none_some c q) fields ts es.0 vs.0 es.1
+    (each_there (map (λ field. field_given (env_at scope given) rest field (field_written field ms)) fields) vs.0 vs.1))))
 
 -- where a field isn't written there is a value that gives it
 unwritten : (field : List ℕ) (fs : List FieldLowering) → is_in field (names_written fs) ≡ false → value_written field fs ≡ None
@@ -301,22 +301,22 @@ rest_there env fs ms h rest (field ∷ fields) (v ∷ vs) e there = by_test (is_
     by_test false q k more = given_by (value_written field fs) (field_written field ms) (is_written field fs ms h) (unwritten field fs q) there.0
 
 -- with one
-with_keeps : (place : CoreScope) (calls : Functions) (given : List Given) (bound : Bindings) → SimulatesInScope place calls given bound → (fs : List FieldLowering) (ms : List FieldDen) → EachFieldMeans fs ms
+with_keeps : (scope : CoreScope) (calls : Functions) (given : List Given) (bound : Bindings) → SimulatesInScope scope calls given bound → (fs : List FieldLowering) (ms : List FieldDen) → EachFieldMeans fs ms
     → (l : LoweredExpr) (rest : Option DslxValue) → KeepsValue calls bound (Some l) rest → (name : List ℕ) (fields : List (List ℕ)) (ts : List DslxType)
     → list_all (λ field. is_in field (names_written fs)) fields ≡ false
-    → KeepsValue calls bound (with_others place l fs (ty.Struct name fields ts) fields ts) (struct_at (env_at place given) ms rest (DslxType-F.Struct name fields ts))
-with_keeps place calls given bound at fs ms h l rest keeps name fields ts some e k v g =
-    let es = from_then (lower_fields (with_unnamed place) fs (lowered (core.Slot place.count) l.ty) fields ts) (λ es. lowered (core.Bind l.core shape.Bound (core.Tuple (cores_of es))) (ty.Struct name fields ts)) e k in
-    let vs = from_then (all_some (map (λ field. field_given (env_at place given) rest field (field_written field ms)) fields)) (λ vs. Some (value.Struct name fields vs)) v g in
-    let there = each_there (map (λ field. field_given (env_at place given) rest field (field_written field ms)) fields) vs.0 vs.1 in
-    let r = rest_there (env_at place given) fs ms h rest fields vs.0 some there in
+    → KeepsValue calls bound (with_others scope l fs (ty.Struct name fields ts) fields ts) (struct_at (env_at scope given) ms rest (DslxType-F.Struct name fields ts))
+with_keeps scope calls given bound at fs ms h l rest keeps name fields ts some e k v g =
+    let es = from_then (lower_fields (with_unnamed scope) fs (lowered (core.Slot scope.count) l.ty) fields ts) (λ es. lowered (core.Bind l.core shape.Bound (core.Tuple (cores_of es))) (ty.Struct name fields ts)) e k in
+    let vs = from_then (all_some (map (λ field. field_given (env_at scope given) rest field (field_written field ms)) fields)) (λ vs. Some (value.Struct name fields vs)) v g in
+    let there = each_there (map (λ field. field_given (env_at scope given) rest field (field_written field ms)) fields) vs.0 vs.1 in
+    let r = rest_there (env_at scope given) fs ms h rest fields vs.0 some there in
     let has = keeps l refl r.0 r.1 in
     let more = bound ++ plain_value r.0 ∷ [] in
-    let slot : HasPlainValue (record { core = core.Slot place.count; ty = l.ty }) calls more r.0 = record {
+    let slot : HasPlainValue (record { core = core.Slot scope.count; ty = l.ty }) calls more r.0 = record {
       of = has.of;
-      core = ap (λ f. f calls more) (core_slot place.count) ∙ ap (slice_get more) (sym at.count) ∙ at_end bound (plain_value r.0);
+      core = ap (λ f. f calls more) (core_slot scope.count) ∙ ap (slice_get more) (sym at.count) ∙ at_end bound (plain_value r.0);
     } in
-    let inner = fields_have (with_unnamed place) calls given more (unnamed_simulates place calls given bound (plain_value r.0) at) fs ms h (lowered (core.Slot place.count) l.ty) rest (from_slot r.0 r.1 more slot) fields ts es.0 vs.0 es.1 there in
+    let inner = fields_have (with_unnamed scope) calls given more (unnamed_simulates scope calls given bound (plain_value r.0) at) fs ms h (lowered (core.Slot scope.count) l.ty) rest (from_slot r.0 r.1 more slot) fields ts es.0 vs.0 es.1 there in
     let struct = struct_kept calls more name fields ts es.0 vs.0 inner in
     value_as calls bound e (value.Struct name fields vs.0) v vs.2
     (kept_as calls bound (value.Struct name fields vs.0) (record { core = core.Bind l.core shape.Bound (core.Tuple (cores_of es.0)); ty = ty.Struct name fields ts }) e es.2
@@ -329,31 +329,31 @@ with_keeps place calls given bound at fs ms h l rest keeps name fields ts some e
           ∙ struct.core;
     }))
   where
-    from_slot : (r : DslxValue) → rest ≡ Some r → (more : Bindings) → HasPlainValue (record { core = core.Slot place.count; ty = l.ty }) calls more r
-        → (field : List ℕ) → KeepsValue calls more (lower_field (lowered (core.Slot place.count) l.ty) field) (field_from field rest)
+    from_slot : (r : DslxValue) → rest ≡ Some r → (more : Bindings) → HasPlainValue (record { core = core.Slot scope.count; ty = l.ty }) calls more r
+        → (field : List ℕ) → KeepsValue calls more (lower_field (lowered (core.Slot scope.count) l.ty) field) (field_from field rest)
     from_slot r er more slot field c q w f =
-        let p = from_then (field_index field (out-DslxType l.ty)) (λ p. lowered (core.Element (core.Slot place.count) p.0) p.1) c q in
-        kept_as calls more w (record { core = core.Element (core.Slot place.count) p.0.0; ty = p.0.1 }) c p.2
-        (field_kept calls more (record { core = core.Slot place.count; ty = l.ty }) r field p.0 w slot p.1 (sym (ap (field_from field) er) ∙ f))
+        let p = from_then (field_index field (out-DslxType l.ty)) (λ p. lowered (core.Element (core.Slot scope.count) p.0) p.1) c q in
+        kept_as calls more w (record { core = core.Element (core.Slot scope.count) p.0.0; ty = p.0.1 }) c p.2
+        (field_kept calls more (record { core = core.Slot scope.count; ty = l.ty }) r field p.0 w slot p.1 (sym (ap (field_from field) er) ∙ f))
 
 abbrev pub OthersMean : Option ExprLowering → ValueDen → Type 0
 OthersMean None m = Unit {0}
 OthersMean (Some l) m = LowerPreserves l m
 
-pub struct_keeps : (place : CoreScope) (calls : Functions) (given : List Given) (bound : Bindings) → SimulatesInScope place calls given bound → (fs : List FieldLowering) (ms : List FieldDen) → EachFieldMeans fs ms
+pub struct_keeps : (scope : CoreScope) (calls : Functions) (given : List Given) (bound : Bindings) → SimulatesInScope scope calls given bound → (fs : List FieldLowering) (ms : List FieldDen) → EachFieldMeans fs ms
     → (others : Option ExprLowering) (rest : ValueDen) → OthersMean others rest → (t : DslxType-F DslxType)
-    → KeepsValue calls bound (lower_struct_in place fs others t) (struct_at (env_at place given) ms (rest (env_at place given)) t)
-struct_keeps place calls given bound at fs ms h None rest means (DslxType-F.Struct name fields ts) e k v g = without_keeps place calls given bound at fs ms h (rest (env_at place given)) name fields ts e k v g
-struct_keeps place calls given bound at fs ms h (Some l) rest means (DslxType-F.Struct name fields ts) e k v g = by_test (list_all (λ field. is_in field (names_written fs)) fields) refl k
+    → KeepsValue calls bound (lower_struct_in scope fs others t) (struct_at (env_at scope given) ms (rest (env_at scope given)) t)
+struct_keeps scope calls given bound at fs ms h None rest means (DslxType-F.Struct name fields ts) e k v g = without_keeps scope calls given bound at fs ms h (rest (env_at scope given)) name fields ts e k v g
+struct_keeps scope calls given bound at fs ms h (Some l) rest means (DslxType-F.Struct name fields ts) e k v g = by_test (list_all (λ field. is_in field (names_written fs)) fields) refl k
   where
     by_test : (b : Bool) → list_all (λ field. is_in field (names_written fs)) fields ≡ b
-        → (if b then without_others place fs (ty.Struct name fields ts) fields ts else and_then (l place) (λ e. with_others place e fs (ty.Struct name fields ts) fields ts)) ≡ Some e → HasPlainValue e calls bound v
-    by_test true q k = without_keeps place calls given bound at fs ms h (rest (env_at place given)) name fields ts e k v g
+        → (if b then without_others scope fs (ty.Struct name fields ts) fields ts else and_then (l scope) (λ e. with_others scope e fs (ty.Struct name fields ts) fields ts)) ≡ Some e → HasPlainValue e calls bound v
+    by_test true q k = without_keeps scope calls given bound at fs ms h (rest (env_at scope given)) name fields ts e k v g
     by_test false q k =
-        let c = from_then (l place) (λ e. with_others place e fs (ty.Struct name fields ts) fields ts) e k in
-        with_keeps place calls given bound at fs ms h c.0 (rest (env_at place given)) (λ x p. means place calls given bound at x (c.1 ∙ p)) name fields ts q e c.2 v g
-struct_keeps place calls given bound at fs ms h others rest means (DslxType-F.Tuple x) e k v g = none_some e k
-struct_keeps place calls given bound at fs ms h others rest means (DslxType-F.Bits x y) e k v g = none_some e k
-struct_keeps place calls given bound at fs ms h others rest means (DslxType-F.Array x y) e k v g = none_some e k
-struct_keeps place calls given bound at fs ms h others rest means (DslxType-F.Enum x y z) e k v g = none_some e k
-struct_keeps place calls given bound at fs ms h others rest means DslxType-F.Token e k v g = none_some e k
+        let c = from_then (l scope) (λ e. with_others scope e fs (ty.Struct name fields ts) fields ts) e k in
+        with_keeps scope calls given bound at fs ms h c.0 (rest (env_at scope given)) (λ x p. means scope calls given bound at x (c.1 ∙ p)) name fields ts q e c.2 v g
+struct_keeps scope calls given bound at fs ms h others rest means (DslxType-F.Tuple x) e k v g = none_some e k
+struct_keeps scope calls given bound at fs ms h others rest means (DslxType-F.Bits x y) e k v g = none_some e k
+struct_keeps scope calls given bound at fs ms h others rest means (DslxType-F.Array x y) e k v g = none_some e k
+struct_keeps scope calls given bound at fs ms h others rest means (DslxType-F.Enum x y z) e k v g = none_some e k
+struct_keeps scope calls given bound at fs ms h others rest means DslxType-F.Token e k v g = none_some e k

@@ -171,30 +171,30 @@ token_keeps calls bound e h v k =
     (kept_as calls bound value.Token (record { core = core.Tuple []; ty = ty.Token }) e h
     (record { of = of_token value.Token ∙ rw views.outs-Token refl; core = ap (λ f. f calls bound) (core_tuple []) ∙ ap Some (sym plain_token) }))
 
-function_keeps : (place : CoreScope) (calls : Functions) (given : List Given) (bound : Bindings) → SimulatesInScope place calls given bound → (name : List ℕ) (ns ms : List (Option DslxValue)) (parametric_args : List DslxValue)
+function_keeps : (scope : CoreScope) (calls : Functions) (given : List Given) (bound : Bindings) → SimulatesInScope scope calls given bound → (name : List ℕ) (ns ms : List (Option DslxValue)) (parametric_args : List DslxValue)
     (ls : List (Option LoweredExpr)) (os : List (Option DslxValue)) (vs : List DslxValue) → EachGivesSame ns ms → all_some ms ≡ Some parametric_args → EachKeeps calls bound ls os → all_some os ≡ Some vs
-    → KeepsValue calls bound (lower_function place name ns ls) (place.known.items.call name parametric_args vs)
-function_keeps place calls given bound at name ns ms parametric_args ls os vs same number h there e k r g =
-    let a = from_both (all_some ns) (all_some ls) (λ parametric_args es. and_then (place.known.callee name parametric_args (types_of_lowered es)) (λ callee. lowered (core.Call callee.number (cores_of es)) callee.result)) e k in
-    let c = from_then (place.known.callee name a.0 (types_of_lowered a.1)) (λ callee. lowered (core.Call callee.number (cores_of a.1)) callee.result) e a.4 in
+    → KeepsValue calls bound (lower_function scope name ns ls) (scope.known.items.call name parametric_args vs)
+function_keeps scope calls given bound at name ns ms parametric_args ls os vs same number h there e k r g =
+    let a = from_both (all_some ns) (all_some ls) (λ parametric_args es. and_then (scope.known.callee name parametric_args (types_of_lowered es)) (λ callee. lowered (core.Call callee.number (cores_of es)) callee.result)) e k in
+    let c = from_then (scope.known.callee name a.0 (types_of_lowered a.1)) (λ callee. lowered (core.Call callee.number (cores_of a.1)) callee.result) e a.4 in
     let have = all_have calls bound ls os a.1 vs h a.3 there in
     let one = same_some parametric_args a.0 (sym number ∙ all_same ns ms a.0 same a.2) in
-    let stands = at.known.callees name a.0 vs (types_of_lowered a.1) c.0 r c.1 (all_of calls bound a.1 vs have) (ap (λ ns. place.known.items.call name ns vs) (sym one) ∙ g) in
+    let stands = at.known.callees name a.0 vs (types_of_lowered a.1) c.0 r c.1 (all_of calls bound a.1 vs have) (ap (λ ns. scope.known.items.call name ns vs) (sym one) ∙ g) in
     kept_as calls bound r (record { core = core.Call c.0.number (cores_of a.1); ty = c.0.result }) e c.2
     (record {
       of = stands.0;
       core = ap (λ f. f calls bound) (core_call c.0.number (cores_of a.1)) ∙ ap (λ o. and_then o (calls c.0.number)) (all_values calls bound a.1 vs have) ∙ stands.1;
     })
 
-pub call_keeps : (place : CoreScope) (calls : Functions) (given : List Given) (bound : Bindings) → SimulatesInScope place calls given bound → (kind : CallKind) (name : List ℕ) (ns ms : List (Option DslxValue))
+pub call_keeps : (scope : CoreScope) (calls : Functions) (given : List Given) (bound : Bindings) → SimulatesInScope scope calls given bound → (kind : CallKind) (name : List ℕ) (ns ms : List (Option DslxValue))
     (ls : List (Option LoweredExpr)) (os : List (Option DslxValue)) → EachGivesSame ns ms → EachKeeps calls bound ls os
-    → KeepsValue calls bound (lower_call kind name place ns ls) (with_both (all_some ms) (all_some os) (call_den kind name (env_at place given)))
-call_keeps place calls given bound at kind name ns ms ls os same h e k r g =
-    let q = from_both (all_some ms) (all_some os) (call_den kind name (env_at place given)) r g in
+    → KeepsValue calls bound (lower_call kind name scope ns ls) (with_both (all_some ms) (all_some os) (call_den kind name (env_at scope given)))
+call_keeps scope calls given bound at kind name ns ms ls os same h e k r g =
+    let q = from_both (all_some ms) (all_some os) (call_den kind name (env_at scope given)) r g in
     by_kind kind q.0 q.1 q.2 q.3 k q.4
   where
-    by_kind : (kind : CallKind) (parametric_args vs : List DslxValue) → all_some ms ≡ Some parametric_args → all_some os ≡ Some vs → lower_call kind name place ns ls ≡ Some e
-        → call_den kind name (env_at place given) parametric_args vs ≡ Some r → HasPlainValue e calls bound r
+    by_kind : (kind : CallKind) (parametric_args vs : List DslxValue) → all_some ms ≡ Some parametric_args → all_some os ≡ Some vs → lower_call kind name scope ns ls ≡ Some e
+        → call_den kind name (env_at scope given) parametric_args vs ≡ Some r → HasPlainValue e calls bound r
     by_kind Joins parametric_args vs p q k g = token_keeps calls bound e (from_then (all_some ls) (λ es. lowered (core.Tuple []) ty.Token) e k).2 r g
     by_kind CountsLeading parametric_args vs p q k g = counted_keeps calls bound u.Clz op.clz ls os vs h (λ x. refl) (λ x. refl) clz_lies (each_there os vs q) e k r g
     by_kind CountsTrailing parametric_args vs p q k g = counted_keeps calls bound u.Ctz op.ctz ls os vs h (λ x. refl) (λ x. refl) ctz_lies (each_there os vs q) e k r g
@@ -203,7 +203,7 @@ call_keeps place calls given bound at kind name ns ms ls os same h e k r g =
     by_kind SomeOne parametric_args vs p q k g = reduced_keeps calls bound u.OrReduce op.or_reduce ls os vs h (λ x. refl) (λ x. refl) or_reduce_lies (each_there os vs q) e k r g
     by_kind Parity parametric_args vs p q k g = reduced_keeps calls bound u.XorReduce op.xor_reduce ls os vs h (λ x. refl) (λ x. refl) xor_reduce_lies (each_there os vs q) e k r g
     by_kind Updates parametric_args vs p q k g = updated_keeps calls bound ls os vs h (each_there os vs q) e k r g
-    by_kind Calls parametric_args vs p q k g = function_keeps place calls given bound at name ns ms parametric_args ls os vs same p h q e k r g
+    by_kind Calls parametric_args vs p q k g = function_keeps scope calls given bound at name ns ms parametric_args ls os vs same p h q e k r g
     by_kind Receives parametric_args vs p q k g = none_some e k
     by_kind ReceivesIf parametric_args vs p q k g = none_some e k
     by_kind Sends parametric_args vs p q k g = none_some e k

@@ -33,28 +33,28 @@ use Rattle.dslx_core.proofs.OnLowering.Openings.{core_bind, core_choose, core_lo
 -- ---- blocks
 
 -- where a value fits a pattern, it fits the shape, and the rest goes on behind it
-pub record Behind (place : CoreScope) (calls : Functions) (o : Option Env) (p : Option Bindings) (inner : Env) : Type 0 where
+pub record Behind (scope : CoreScope) (calls : Functions) (o : Option Env) (p : Option Bindings) (inner : Env) : Type 0 where
   pub given : List Given
   pub others : Bindings
-  pub env : inner ≡ env_at place given
+  pub env : inner ≡ env_at scope given
   pub apart : p ≡ Some others
-  pub stands : SimulatesInScope place calls given others
+  pub stands : SimulatesInScope scope calls given others
 
-pub behind : (place : CoreScope) (calls : Functions) (o : Option Env) (p : Option Bindings) (inner : Env) → o ≡ Some inner → FitLowerPreserves place calls o p → Behind place calls o p inner
-behind place calls o p inner e (BothFit given others x y z) = record { given = given; others = others; env = same_some inner (env_at place given) (sym e ∙ x); apart = y; stands = z }
-behind place calls o p inner e (NeitherFits x y) = none_some inner (sym x ∙ e)
+pub behind : (scope : CoreScope) (calls : Functions) (o : Option Env) (p : Option Bindings) (inner : Env) → o ≡ Some inner → FitLowerPreserves scope calls o p → Behind scope calls o p inner
+behind scope calls o p inner e (BothFit given others x y z) = record { given = given; others = others; env = same_some inner (env_at scope given) (sym e ∙ x); apart = y; stands = z }
+behind scope calls o p inner e (NeitherFits x y) = none_some inner (sym x ∙ e)
 
 pub let_keeps : (value : ExprLowering) (m : ValueDen) (p : PatternLowering) (f : PatternDen) (rest : ExprLowering) (r : ValueDen) → LowerPreserves value m → PatternLowerPreserves p f → LowerPreserves rest r
     → LowerPreserves (lower_let value p rest) (λ env. and_then (m env) (λ v. and_then (fits_in_scope f v env) r))
-let_keeps value m p f rest r first pattern more place calls given bound h e l v k =
-    let a = from_then (value place) (λ e. and_then (lower_in_scope p place e.ty) (λ s. and_then (rest s.place) (λ r. lowered (core.Bind e.core s.shape r.core) r.ty))) e l in
-    let s = from_then (lower_in_scope p place a.0.ty) (λ s. and_then (rest s.place) (λ r. lowered (core.Bind a.0.core s.shape r.core) r.ty)) e a.2 in
-    let c = from_then (rest s.0.place) (λ r. lowered (core.Bind a.0.core s.0.shape r.core) r.ty) e s.2 in
-    let w = from_then (m (env_at place given)) (λ v. and_then (fits_in_scope f v (env_at place given)) r) v k in
-    let i = from_then (fits_in_scope f w.0 (env_at place given)) r v w.2 in
-    let has = first place calls given bound h a.0 a.1 w.0 w.1 in
-    let b = behind s.0.place calls (fits_in_scope f w.0 (env_at place given)) (taken_apart s.0.shape (plain_value w.0) bound) i.0 i.1 (fits_there p f pattern place a.0.ty s.0 s.1 calls given bound h w.0 has.of) in
-    let g = more s.0.place calls b.given b.others b.stands c.0 c.1 v (ap r (sym b.env) ∙ i.2) in
+let_keeps value m p f rest r first pattern more scope calls given bound h e l v k =
+    let a = from_then (value scope) (λ e. and_then (lower_in_scope p scope e.ty) (λ s. and_then (rest s.scope) (λ r. lowered (core.Bind e.core s.shape r.core) r.ty))) e l in
+    let s = from_then (lower_in_scope p scope a.0.ty) (λ s. and_then (rest s.scope) (λ r. lowered (core.Bind a.0.core s.shape r.core) r.ty)) e a.2 in
+    let c = from_then (rest s.0.scope) (λ r. lowered (core.Bind a.0.core s.0.shape r.core) r.ty) e s.2 in
+    let w = from_then (m (env_at scope given)) (λ v. and_then (fits_in_scope f v (env_at scope given)) r) v k in
+    let i = from_then (fits_in_scope f w.0 (env_at scope given)) r v w.2 in
+    let has = first scope calls given bound h a.0 a.1 w.0 w.1 in
+    let b = behind s.0.scope calls (fits_in_scope f w.0 (env_at scope given)) (taken_apart s.0.shape (plain_value w.0) bound) i.0 i.1 (fits_there p f pattern scope a.0.ty s.0 s.1 calls given bound h w.0 has.of) in
+    let g = more s.0.scope calls b.given b.others b.stands c.0 c.1 v (ap r (sym b.env) ∙ i.2) in
     kept_as calls bound v (record { core = core.Bind a.0.core s.0.shape c.0.core; ty = c.0.ty }) e c.2
     (record {
       of = g.of;
@@ -66,7 +66,7 @@ let_keeps value m p f rest r first pattern more place calls given bound h e l v 
 
 -- the value of a statement isn't used
 pub bare_keeps : (m : ValueDen) (rest : ExprLowering) (r : ValueDen) → LowerPreserves rest r → LowerPreserves rest (λ env. and_then (m env) (λ v. r env))
-bare_keeps m rest r more place calls given bound h e l v k = more place calls given bound h e l v (from_then (m (env_at place given)) (λ w. r (env_at place given)) v k).2
+bare_keeps m rest r more scope calls given bound h e l v k = more scope calls given bound h e l v (from_then (m (env_at scope given)) (λ w. r (env_at scope given)) v k).2
 
 -- a block that ends in a statement
 pub unit_keeps : (calls : Functions) (bound : Bindings) → KeepsValue calls bound (lowered (core.Tuple []) unit_type) (Some unit_value)
@@ -140,18 +140,18 @@ turns_keep calls bound s t source body width keeps (suc n) i wide low acc v of e
       ap (λ o. and_then o (turns body n (op.add i (word i.width 1)))) (ap (λ u. body u (plain_value acc)) (sym (plain_bits s i)) ∙ turn.1) ∙ rest.1,
     )
 
-pub loop_keeps : (place : CoreScope) (calls : Functions) (given : List Given) (bound : Bindings) → SimulatesInScope place calls given bound
+pub loop_keeps : (scope : CoreScope) (calls : Functions) (given : List Given) (bound : Bindings) → SimulatesInScope scope calls given bound
     → (ls li : Option LoweredExpr) (start from to : Option DslxValue) (first end : Option SignedWord) → ((x : SignedWord) → first ≡ Some x → and_then from bits_of ≡ Some x)
     → ((x : SignedWord) → end ≡ Some x → and_then to bits_of ≡ Some x) → KeepsValue calls bound ls start → KeepsValue calls bound li from
     → (i acc : PatternLowering) (fi fa : PatternDen) → PatternLowerPreserves i fi → PatternLowerPreserves acc fa → (body : ExprLowering) (m : ValueDen) → LowerPreserves body m
-    → KeepsValue calls bound (lower_loop ls li first end i acc body place)
-    (and_then start (λ start. with_both (and_then from bits_of) (and_then to bits_of) (loop_over (λ k a. and_then (fits_in_scope fi k (env_at place given)) (λ inner. and_then (fits_in_scope fa a inner) m)) start)))
-loop_keeps place calls given bound h ls li start from to first end is_first is_end ks ki i acc fi fa pi pa body m kb e l v k =
+    → KeepsValue calls bound (lower_loop ls li first end i acc body scope)
+    (and_then start (λ start. with_both (and_then from bits_of) (and_then to bits_of) (loop_over (λ k a. and_then (fits_in_scope fi k (env_at scope given)) (λ inner. and_then (fits_in_scope fa a inner) m)) start)))
+loop_keeps scope calls given bound h ls li start from to first end is_first is_end ks ki i acc fi fa pi pa body m kb e l v k =
     let p = from_both ls li _ e l in
     let q = from_both first end _ e p.4 in
-    let s = from_then (lower_in_scope i place p.1.ty) _ e q.4 in
-    let z = from_then (lower_in_scope acc s.0.place p.0.ty) _ e s.2 in
-    let c = from_then (body z.0.place) _ e z.2 in
+    let s = from_then (lower_in_scope i scope p.1.ty) _ e q.4 in
+    let z = from_then (lower_in_scope acc s.0.scope p.0.ty) _ e s.2 in
+    let c = from_then (body z.0.scope) _ e z.2 in
     let r = from_where (equal_type p.0.ty c.0.ty && nat_lt (turn_count q.0 q.1) (2 ^ 64)) (lowered (core.Loop (turn_count q.0 q.1) q.0.word s.0.shape z.0.shape c.0.core p.0.core) p.0.ty) e c.2 in
     let one = one_by_test p.0.ty c.0.ty (and_true (equal_type p.0.ty c.0.ty) (nat_lt (turn_count q.0 q.1) (2 ^ 64)) r.0).0 in
     let w = from_then start (λ start. with_both (and_then from bits_of) (and_then to bits_of) (loop_over source start)) v k in
@@ -175,18 +175,18 @@ loop_keeps place calls given bound h ls li start from to first end is_first is_e
     })
   where
     source : SourceTurn
-    source k a = and_then (fits_in_scope fi k (env_at place given)) (λ inner. and_then (fits_in_scope fa a inner) m)
+    source k a = and_then (fits_in_scope fi k (env_at scope given)) (λ inner. and_then (fits_in_scope fa a inner) m)
 
-    turned : (index bits t u : DslxType) → index ≡ bits → t ≡ u → (s : LoweredShape) → lower_in_scope i place index ≡ Some s → (z : LoweredShape) → lower_in_scope acc s.place t ≡ Some z
-        → (c : LoweredExpr) → body z.place ≡ Some c → c.ty ≡ u → TurnKeeps calls bound bits t source (one_turn s.shape z.shape (core_value c.core) calls bound)
+    turned : (index bits t u : DslxType) → index ≡ bits → t ≡ u → (s : LoweredShape) → lower_in_scope i scope index ≡ Some s → (z : LoweredShape) → lower_in_scope acc s.scope t ≡ Some z
+        → (c : LoweredExpr) → body z.scope ≡ Some c → c.ty ≡ u → TurnKeeps calls bound bits t source (one_turn s.shape z.shape (core_value c.core) calls bound)
     turned index bits t u is one s ls z lz c lc typed j a r of_index of_acc e =
-        let inner = from_then (fits_in_scope fi j (env_at place given)) (λ inner. and_then (fits_in_scope fa a inner) m) r e in
-        let b = behind s.place calls (fits_in_scope fi j (env_at place given)) (taken_apart s.shape (plain_value j) bound) inner.0 inner.1 (fits_there i fi pi place index s ls calls given bound h j (ap (λ t. is_of t j) is ∙ of_index)) in
+        let inner = from_then (fits_in_scope fi j (env_at scope given)) (λ inner. and_then (fits_in_scope fa a inner) m) r e in
+        let b = behind s.scope calls (fits_in_scope fi j (env_at scope given)) (taken_apart s.shape (plain_value j) bound) inner.0 inner.1 (fits_there i fi pi scope index s ls calls given bound h j (ap (λ t. is_of t j) is ∙ of_index)) in
         let more = from_then (fits_in_scope fa a inner.0) m r inner.2 in
         let d =
-        behind z.place calls (fits_in_scope fa a (env_at s.place b.given)) (taken_apart z.shape (plain_value a) b.others) more.0 (ap (fits_in_scope fa a) (sym b.env) ∙ more.1)
-        (fits_there acc fa pa s.place t z lz calls b.given b.others b.stands a of_acc) in
-        let g = kb z.place calls d.given d.others d.stands c lc r (ap m (sym d.env) ∙ more.2) in (
+        behind z.scope calls (fits_in_scope fa a (env_at s.scope b.given)) (taken_apart z.shape (plain_value a) b.others) more.0 (ap (fits_in_scope fa a) (sym b.env) ∙ more.1)
+        (fits_there acc fa pa s.scope t z lz calls b.given b.others b.stands a of_acc) in
+        let g = kb z.scope calls d.given d.others d.stands c lc r (ap m (sym d.env) ∙ more.2) in (
           ap (λ t. is_of t r) (one ∙ sym typed) ∙ g.of,
           ap (λ o. and_then o (λ inner. and_then (taken_apart z.shape (plain_value a) inner) (core_value c.core calls))) b.apart
               ∙ ap (λ o. and_then o (core_value c.core calls)) d.apart ∙ g.core,

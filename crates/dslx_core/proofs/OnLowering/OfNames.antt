@@ -44,18 +44,18 @@ found_first : (o p : Option DslxValue) (v : DslxValue) → or_else o p ≡ Some 
 found_first None p v e f g = g v e
 found_first (Some a) p v e f g = f v e
 
-pub name_keeps : (place : CoreScope) (calls : Functions) (given : List Given) (bound : Bindings) → SimulatesInScope place calls given bound → (name : List ℕ)
-    → KeepsValue calls bound (lower_name name place) (value_of_name name (env_at place given))
-name_keeps place calls given bound h name e l v k = by_local (local_in name place.locals) refl l
+pub name_keeps : (scope : CoreScope) (calls : Functions) (given : List Given) (bound : Bindings) → SimulatesInScope scope calls given bound → (name : List ℕ)
+    → KeepsValue calls bound (lower_name name scope) (value_of_name name (env_at scope given))
+name_keeps scope calls given bound h name e l v k = by_local (local_in name scope.locals) refl l
   where
-    by_local : (o : Option BoundSlot) → local_in name place.locals ≡ o → slot_or_literal place name o ≡ Some e → HasPlainValue e calls bound v
+    by_local : (o : Option BoundSlot) → local_in name scope.locals ≡ o → slot_or_literal scope name o ≡ Some e → HasPlainValue e calls bound v
     by_local None q r =
-        let same = ap (λ o. or_else o (place.known.items.constant name)) (other_stands place.locals place.known.parametric_args given bound name h.slots q) in
-        globals_keep calls bound (or_else (given_in name place.known.parametric_args) (place.known.items.constant name))
-        (λ w p. found_first (given_in name place.known.parametric_args) (place.known.items.constant name) w p (h.known.parametric_args name) (h.known.constants name)) e r v (sym same ∙ k)
+        let same = ap (λ o. or_else o (scope.known.items.constant name)) (other_stands scope.locals scope.known.parametric_args given bound name h.slots q) in
+        globals_keep calls bound (or_else (given_in name scope.known.parametric_args) (scope.known.items.constant name))
+        (λ w p. found_first (given_in name scope.known.parametric_args) (scope.known.items.constant name) w p (h.known.parametric_args name) (h.known.constants name)) e r v (sym same ∙ k)
     by_local (Some s) q r =
-        let stands = local_simulates place.locals place.known.parametric_args given bound name s h.slots q in
-        let is : Some stands.value ≡ Some v = sym (ap (λ o. or_else o (place.known.items.constant name)) stands.is) ∙ k in
+        let stands = local_simulates scope.locals scope.known.parametric_args given bound name s h.slots q in
+        let is : Some stands.value ≡ Some v = sym (ap (λ o. or_else o (scope.known.items.constant name)) stands.is) ∙ k in
         subst (λ x. HasPlainValue e calls bound x) (same_some stands.value v is)
         (kept_as calls bound stands.value (record { core = core.Slot s.slot; ty = s.ty }) e r
         (record { of = stands.of; core = ap (λ f. f calls bound) (core_slot s.slot) ∙ stands.stands }))

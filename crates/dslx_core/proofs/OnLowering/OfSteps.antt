@@ -85,34 +85,34 @@ as_other t a c d e h = subst (DoesTheSame t a) (sym e) h
 
 -- the rest of the steps does what the rest of the statements does
 abbrev StepsMean : Functions → StepsLowering → Further → Type 0
-StepsMean calls l rest = (place : CoreScope) (given : List Given) (bound : Bindings) → SimulatesInScope place calls given bound → (s : LoweredSteps) → l place ≡ Some s → (words : List Word)
-    → DoesTheSame s.next.ty (rest (env_at place given) words) (do_steps calls s.steps s.next.core bound words)
+StepsMean calls l rest = (scope : CoreScope) (given : List Given) (bound : Bindings) → SimulatesInScope scope calls given bound → (s : LoweredSteps) → l scope ≡ Some s → (words : List Word)
+    → DoesTheSame s.next.ty (rest (env_at scope given) words) (do_steps calls s.steps s.next.core bound words)
 
 -- a value is taken apart, and the rest goes on
 goes_on : (calls : Functions) (binds : BindsInScope) (fits : DslxValue → Env → Option Env) → ShapeFits binds fits → (l : StepsLowering) (rest : Further) → StepsMean calls l rest
-    → (place : CoreScope) (given : List Given) (bound : Bindings) → SimulatesInScope place calls given bound → (t : DslxType) (s : LoweredShape) → binds place t ≡ Some s → (r : LoweredSteps) → l s.place ≡ Some r
+    → (scope : CoreScope) (given : List Given) (bound : Bindings) → SimulatesInScope scope calls given bound → (t : DslxType) (s : LoweredShape) → binds scope t ≡ Some s → (r : LoweredSteps) → l s.scope ≡ Some r
     → (v : DslxValue) → is_of t v ≡ true → (words : List Word)
-    → DoesTheSame r.next.ty (further rest (fits v (env_at place given)) words) (go_behind (do_steps calls r.steps r.next.core) (taken_apart s.shape (plain_value v) bound) words)
-goes_on calls binds fits shapes l rest means place given bound at t s e r k v of words = by_fit (shapes place t s e calls given bound at v of)
+    → DoesTheSame r.next.ty (further rest (fits v (env_at scope given)) words) (go_behind (do_steps calls r.steps r.next.core) (taken_apart s.shape (plain_value v) bound) words)
+goes_on calls binds fits shapes l rest means scope given bound at t s e r k v of words = by_fit (shapes scope t s e calls given bound at v of)
   where
-    by_fit : FitLowerPreserves s.place calls (fits v (env_at place given)) (taken_apart s.shape (plain_value v) bound)
-        → DoesTheSame r.next.ty (further rest (fits v (env_at place given)) words) (go_behind (do_steps calls r.steps r.next.core) (taken_apart s.shape (plain_value v) bound) words)
+    by_fit : FitLowerPreserves s.scope calls (fits v (env_at scope given)) (taken_apart s.shape (plain_value v) bound)
+        → DoesTheSame r.next.ty (further rest (fits v (env_at scope given)) words) (go_behind (do_steps calls r.steps r.next.core) (taken_apart s.shape (plain_value v) bound) words)
     by_fit (BothFit more others x y z) =
         subst (λ o. DoesTheSame r.next.ty (further rest o words) (go_behind (do_steps calls r.steps r.next.core) (taken_apart s.shape (plain_value v) bound) words)) (sym x)
-        (subst (λ p. DoesTheSame r.next.ty (rest (env_at s.place more) words) (go_behind (do_steps calls r.steps r.next.core) p words)) (sym y) (means s.place more others z r k words))
+        (subst (λ p. DoesTheSame r.next.ty (rest (env_at s.scope more) words) (go_behind (do_steps calls r.steps r.next.core) p words)) (sym y) (means s.scope more others z r k words))
     by_fit (NeitherFits x y) =
         subst (λ o. DoesTheSame r.next.ty (further rest o words) (go_behind (do_steps calls r.steps r.next.core) (taken_apart s.shape (plain_value v) bound) words)) (sym x) (nothing_done r.next.ty _)
 
 -- a value that may be missing in the text
 goes_with : (calls : Functions) (binds : BindsInScope) (fits : DslxValue → Env → Option Env) → ShapeFits binds fits → (l : StepsLowering) (rest : Further) → StepsMean calls l rest
-    → (place : CoreScope) (given : List Given) (bound : Bindings) → SimulatesInScope place calls given bound → (t : DslxType) (s : LoweredShape) → binds place t ≡ Some s → (r : LoweredSteps) → l s.place ≡ Some r
+    → (scope : CoreScope) (given : List Given) (bound : Bindings) → SimulatesInScope scope calls given bound → (t : DslxType) (s : LoweredShape) → binds scope t ≡ Some s → (r : LoweredSteps) → l s.scope ≡ Some r
     → (o : Option DslxValue) (p : Option Value) → ((v : DslxValue) → o ≡ Some v → (is_of t v ≡ true) × (p ≡ Some (plain_value v))) → (words : List Word)
-    → DoesTheSame r.next.ty (further rest (and_then o (λ v. fits v (env_at place given))) words) (apart_then s.shape (do_steps calls r.steps r.next.core) bound p words)
-goes_with calls binds fits shapes l rest means place given bound at t s e r k None p there words = nothing_done r.next.ty _
-goes_with calls binds fits shapes l rest means place given bound at t s e r k (Some v) p there words =
+    → DoesTheSame r.next.ty (further rest (and_then o (λ v. fits v (env_at scope given))) words) (apart_then s.shape (do_steps calls r.steps r.next.core) bound p words)
+goes_with calls binds fits shapes l rest means scope given bound at t s e r k None p there words = nothing_done r.next.ty _
+goes_with calls binds fits shapes l rest means scope given bound at t s e r k (Some v) p there words =
     let q = there v refl in
-    subst (λ x. DoesTheSame r.next.ty (further rest (fits v (env_at place given)) words) (apart_then s.shape (do_steps calls r.steps r.next.core) bound x words)) (sym q.1)
-    (goes_on calls binds fits shapes l rest means place given bound at t s e r k v q.0 words)
+    subst (λ x. DoesTheSame r.next.ty (further rest (fits v (env_at scope given)) words) (apart_then s.shape (do_steps calls r.steps r.next.core) bound x words)) (sym q.1)
+    (goes_on calls binds fits shapes l rest means scope given bound at t s e r k v q.0 words)
 
 -- ---- words
 
@@ -135,12 +135,12 @@ word_received t h w =
     from_plain t q.0 (unflat_of (plain_type t) w.value) (gives_typed (plain_type t) q.1 w.value)
 
 -- whether a condition holds
-condition_is : (place : CoreScope) (calls : Functions) (given : List Given) (bound : Bindings) → SimulatesInScope place calls given bound → (p : Expr) (c : LoweredExpr) → lower_expression p place ≡ Some c → (b : Bool)
-    → and_then (value_of p (env_at place given)) truth ≡ Some b → condition_at calls c.core bound ≡ Some b
-condition_is place calls given bound at p c low b e =
-    let v = from_then (value_of p (env_at place given)) truth b e in
+condition_is : (scope : CoreScope) (calls : Functions) (given : List Given) (bound : Bindings) → SimulatesInScope scope calls given bound → (p : Expr) (c : LoweredExpr) → lower_expression p scope ≡ Some c → (b : Bool)
+    → and_then (value_of p (env_at scope given)) truth ≡ Some b → condition_at calls c.core bound ≡ Some b
+condition_is scope calls given bound at p c low b e =
+    let v = from_then (value_of p (env_at scope given)) truth b e in
     let x = from_then (bits_of v.0) truth_of b v.2 in
-    let has = expression_means p place calls given bound at c low v.0 v.1 in
+    let has = expression_means p scope calls given bound at c low v.0 v.1 in
     ap (λ o. and_then o is_one) (operand_word c calls bound v.0 x.0 has (operand c.ty v.0 x.0 has.of x.1)) ∙ truth_is x.0 b x.2
 
 -- ---- members
@@ -195,30 +195,30 @@ ActMeans calls outer given ends low act = (binds : BindsInScope) (fits : DslxVal
 -- a value alone
 computes_mean : (calls : Functions) (outer : CoreScope) (given : List Given) (ends : List End) (e : Expr)
     → ActMeans calls outer given ends (lower_act outer ends Computes e) (λ site env binds rest. do_act site Computes e binds rest)
-computes_mean calls outer given ends e binds fits shapes l rest means place inner bound at r low words =
-    let c = from_then (lower_expression e place) (λ e. lower_compute e binds l place) r low in
-    let s = from_then (binds place c.0.ty) (λ s. step_then (step.Bind c.0.core s.shape) (l s.place)) r c.2 in
-    let q = with_step (step.Bind c.0.core s.0.shape) (l s.0.place) r s.2 in
-    subst (λ (x : LoweredSteps). DoesTheSame x.next.ty (further rest (and_then (value_of e (env_at place inner)) (λ v. fits v (env_at place inner))) words) (do_steps calls x.steps x.next.core bound words)) q.2
-    (goes_with calls binds fits shapes l rest means place inner bound at c.0.ty s.0 s.1 q.0 q.1 (value_of e (env_at place inner)) (core_value c.0.core calls bound)
-    (λ v k. let has = expression_means e place calls inner bound at c.0 c.1 v k in (has.of, has.core)) words)
+computes_mean calls outer given ends e binds fits shapes l rest means scope inner bound at r low words =
+    let c = from_then (lower_expression e scope) (λ e. lower_compute e binds l scope) r low in
+    let s = from_then (binds scope c.0.ty) (λ s. step_then (step.Bind c.0.core s.shape) (l s.scope)) r c.2 in
+    let q = with_step (step.Bind c.0.core s.0.shape) (l s.0.scope) r s.2 in
+    subst (λ (x : LoweredSteps). DoesTheSame x.next.ty (further rest (and_then (value_of e (env_at scope inner)) (λ v. fits v (env_at scope inner))) words) (do_steps calls x.steps x.next.core bound words)) q.2
+    (goes_with calls binds fits shapes l rest means scope inner bound at c.0.ty s.0 s.1 q.0 q.1 (value_of e (env_at scope inner)) (core_value c.0.core calls bound)
+    (λ v k. let has = expression_means e scope calls inner bound at c.0 c.1 v k in (has.of, has.core)) words)
 
 -- a receive that is on
 takes_mean : (calls : Functions) (outer : CoreScope) (given : List Given) (ends : List End) (name : List ℕ) (m : CoreMember) → MemberSimulates outer given ends name m
     → (binds : BindsInScope) (fits : DslxValue → Env → Option Env) → ShapeFits binds fits → (l : StepsLowering) (rest : Further) → StepsMean calls l rest
-    → (place : CoreScope) (inner : List Given) (bound : Bindings) → SimulatesInScope place calls inner bound → (s : LoweredShape) → binds place (received m.word) ≡ Some s → (q : LoweredSteps) → l s.place ≡ Some q → (words : List Word)
-    → DoesTheSame q.next.ty (take_word (word_type_at (record { members = ends; env = env_at outer given }) name) (λ v. fits v (env_at place inner)) rest words)
+    → (scope : CoreScope) (inner : List Given) (bound : Bindings) → SimulatesInScope scope calls inner bound → (s : LoweredShape) → binds scope (received m.word) ≡ Some s → (q : LoweredSteps) → l s.scope ≡ Some q → (words : List Word)
+    → DoesTheSame q.next.ty (take_word (word_type_at (record { members = ends; env = env_at outer given }) name) (λ v. fits v (env_at scope inner)) rest words)
     (receive_on (plain_type m.word) s.shape (do_steps calls q.steps q.next.core) bound words)
-takes_mean calls outer given ends name m member binds fits shapes l rest means place inner bound at s e q k words =
-    subst (λ o. DoesTheSame q.next.ty (take_word o (λ v. fits v (env_at place inner)) rest words) (receive_on (plain_type m.word) s.shape (do_steps calls q.steps q.next.core) bound words)) (sym member.typed) (by_words words)
+takes_mean calls outer given ends name m member binds fits shapes l rest means scope inner bound at s e q k words =
+    subst (λ o. DoesTheSame q.next.ty (take_word o (λ v. fits v (env_at scope inner)) rest words) (receive_on (plain_type m.word) s.shape (do_steps calls q.steps q.next.core) bound words)) (sym member.typed) (by_words words)
   where
-    by_words : (words : List Word) → DoesTheSame q.next.ty (take_word (Some m.word) (λ v. fits v (env_at place inner)) rest words) (receive_on (plain_type m.word) s.shape (do_steps calls q.steps q.next.core) bound words)
+    by_words : (words : List Word) → DoesTheSame q.next.ty (take_word (Some m.word) (λ v. fits v (env_at scope inner)) rest words) (receive_on (plain_type m.word) s.shape (do_steps calls q.steps q.next.core) bound words)
     by_words [] = record { turns = λ i turn h. h; last = λ v h. none_some v h }
     by_words (w ∷ words) =
         let word = word_received m.word member.travels w in
         let pair = pair_with (from_word m.word w) in
-        one_turn_more q.next.ty Receive (further rest (fits pair (env_at place inner)) words) (apart_then s.shape (do_steps calls q.steps q.next.core) bound (Some (with_token (unflat_of (plain_type m.word) w.value))) words)
-        (goes_with calls binds fits shapes l rest means place inner bound at (received m.word) s e q k (Some pair) (Some (with_token (unflat_of (plain_type m.word) w.value)))
+        one_turn_more q.next.ty Receive (further rest (fits pair (env_at scope inner)) words) (apart_then s.shape (do_steps calls q.steps q.next.core) bound (Some (with_token (unflat_of (plain_type m.word) w.value))) words)
+        (goes_with calls binds fits shapes l rest means scope inner bound at (received m.word) s e q k (Some pair) (Some (with_token (unflat_of (plain_type m.word) w.value)))
         (λ v h. (
           ap (is_of (received m.word)) (sym (same_some pair v h)) ∙ pair_of m.word (from_word m.word w) word.0,
           ap Some (ap with_token (sym word.1) ∙ sym (plain_pair (from_word m.word w)) ∙ ap plain_value (same_some pair v h)),
@@ -226,28 +226,28 @@ takes_mean calls outer given ends name m member binds fits shapes l rest means p
 
 -- a token, behind a send or where it is off
 token_goes_on : (calls : Functions) (binds : BindsInScope) (fits : DslxValue → Env → Option Env) → ShapeFits binds fits → (l : StepsLowering) (rest : Further) → StepsMean calls l rest
-    → (place : CoreScope) (inner : List Given) (bound : Bindings) → SimulatesInScope place calls inner bound → (s : LoweredShape) → binds place ty.Token ≡ Some s → (q : LoweredSteps) → l s.place ≡ Some q → (words : List Word)
-    → DoesTheSame q.next.ty (further rest (fits value.Token (env_at place inner)) words) (apart_then s.shape (do_steps calls q.steps q.next.core) bound (Some token) words)
-token_goes_on calls binds fits shapes l rest means place inner bound at s e q k words =
-    goes_with calls binds fits shapes l rest means place inner bound at ty.Token s e q k (Some value.Token) (Some token)
+    → (scope : CoreScope) (inner : List Given) (bound : Bindings) → SimulatesInScope scope calls inner bound → (s : LoweredShape) → binds scope ty.Token ≡ Some s → (q : LoweredSteps) → l s.scope ≡ Some q → (words : List Word)
+    → DoesTheSame q.next.ty (further rest (fits value.Token (env_at scope inner)) words) (apart_then s.shape (do_steps calls q.steps q.next.core) bound (Some token) words)
+token_goes_on calls binds fits shapes l rest means scope inner bound at s e q k words =
+    goes_with calls binds fits shapes l rest means scope inner bound at ty.Token s e q k (Some value.Token) (Some token)
     (λ v h. (ap (is_of ty.Token) (sym (same_some value.Token v h)) ∙ token_of, ap Some (sym plain_token ∙ ap plain_value (same_some value.Token v h)))) words
 
 -- a send that is on
 sends_mean : (calls : Functions) (word : Expr) (c : LoweredExpr) (binds : BindsInScope) (fits : DslxValue → Env → Option Env) → ShapeFits binds fits → (l : StepsLowering) (rest : Further) → StepsMean calls l rest
-    → (place : CoreScope) (inner : List Given) (bound : Bindings) → SimulatesInScope place calls inner bound → lower_expression word place ≡ Some c → (s : LoweredShape) → binds place ty.Token ≡ Some s
-    → (q : LoweredSteps) → l s.place ≡ Some q → (words : List Word)
-    → DoesTheSame q.next.ty (send_word (value_of word (env_at place inner)) (λ v. fits v (env_at place inner)) rest words)
+    → (scope : CoreScope) (inner : List Given) (bound : Bindings) → SimulatesInScope scope calls inner bound → lower_expression word scope ≡ Some c → (s : LoweredShape) → binds scope ty.Token ≡ Some s
+    → (q : LoweredSteps) → l s.scope ≡ Some q → (words : List Word)
+    → DoesTheSame q.next.ty (send_word (value_of word (env_at scope inner)) (λ v. fits v (env_at scope inner)) rest words)
     (send_on s.shape (do_steps calls q.steps q.next.core) bound (core_value c.core calls bound) words)
-sends_mean calls word c binds fits shapes l rest means place inner bound at low s e q k words = by_value (value_of word (env_at place inner)) refl
+sends_mean calls word c binds fits shapes l rest means scope inner bound at low s e q k words = by_value (value_of word (env_at scope inner)) refl
   where
-    by_value : (o : Option DslxValue) → value_of word (env_at place inner) ≡ o
-        → DoesTheSame q.next.ty (send_word o (λ v. fits v (env_at place inner)) rest words) (send_on s.shape (do_steps calls q.steps q.next.core) bound (core_value c.core calls bound) words)
+    by_value : (o : Option DslxValue) → value_of word (env_at scope inner) ≡ o
+        → DoesTheSame q.next.ty (send_word o (λ v. fits v (env_at scope inner)) rest words) (send_on s.shape (do_steps calls q.steps q.next.core) bound (core_value c.core calls bound) words)
     by_value None h = nothing_done q.next.ty _
     by_value (Some v) h =
-        let has = expression_means word place calls inner bound at c low v h in
-        subst (λ x. DoesTheSame q.next.ty (send_word (Some v) (λ v. fits v (env_at place inner)) rest words) (send_on s.shape (do_steps calls q.steps q.next.core) bound x words)) (sym has.core)
-        (one_turn_more q.next.ty (Give (flat_of (plain_value v))) (further rest (fits value.Token (env_at place inner)) words) (apart_then s.shape (do_steps calls q.steps q.next.core) bound (Some token) words)
-        (token_goes_on calls binds fits shapes l rest means place inner bound at s e q k words))
+        let has = expression_means word scope calls inner bound at c low v h in
+        subst (λ x. DoesTheSame q.next.ty (send_word (Some v) (λ v. fits v (env_at scope inner)) rest words) (send_on s.shape (do_steps calls q.steps q.next.core) bound x words)) (sym has.core)
+        (one_turn_more q.next.ty (Give (flat_of (plain_value v))) (further rest (fits value.Token (env_at scope inner)) words) (apart_then s.shape (do_steps calls q.steps q.next.core) bound (Some token) words)
+        (token_goes_on calls binds fits shapes l rest means scope inner bound at s e q k words))
 
 -- a site that may be off
 on_or_off_mean : (t : DslxType) (c : Option Bool) (d : Option Bool) → ((b : Bool) → c ≡ Some b → d ≡ Some b) → (on : Activity) (core_on : CoreActivity) → DoesTheSame t on core_on
@@ -265,46 +265,46 @@ on_or_off_mean t (Some false) d same on core_on h default binds rest words s cor
 -- a receive where a condition may fail
 takes_if_mean : (calls : Functions) (outer : CoreScope) (given : List Given) (outside : Bindings) → SimulatesInScope outer calls given outside → (ends : List End) (name : List ℕ) (p other e : Expr)
     → ActMeans calls outer given ends (lower_act outer ends (TakesWordIf name p other) e) (λ site env binds rest. do_act site (TakesWordIf name p other) e binds rest)
-takes_if_mean calls outer given outside there ends name p other e binds fits shapes l rest means place inner bound at r low words =
-    let m = from_then (member_in outer ends name) (λ m. with_both (lower_expression p place) (of_type m.word (lower_expression other place)) (λ p other. lower_receive m (Some (p, other)) binds l place)) r low in
-    let c = from_both (lower_expression p place) (of_type m.0.word (lower_expression other place)) (λ p other. lower_receive m.0 (Some (p, other)) binds l place) r m.2 in
-    let d = of_its_type m.0.word (lower_expression other place) c.1 c.3 in
-    let s = from_then (binds place (received m.0.word)) (λ s. step_then (step.Receive (record { member = m.0.number; word = plain_type m.0.word; condition = Some (c.0.core, c.1.core); shape = s.shape })) (l s.place)) r c.4 in
-    let q = with_step (step.Receive (record { member = m.0.number; word = plain_type m.0.word; condition = Some (c.0.core, c.1.core); shape = s.0.shape })) (l s.0.place) r s.2 in
+takes_if_mean calls outer given outside there ends name p other e binds fits shapes l rest means scope inner bound at r low words =
+    let m = from_then (member_in outer ends name) (λ m. with_both (lower_expression p scope) (of_type m.word (lower_expression other scope)) (λ p other. lower_receive m (Some (p, other)) binds l scope)) r low in
+    let c = from_both (lower_expression p scope) (of_type m.0.word (lower_expression other scope)) (λ p other. lower_receive m.0 (Some (p, other)) binds l scope) r m.2 in
+    let d = of_its_type m.0.word (lower_expression other scope) c.1 c.3 in
+    let s = from_then (binds scope (received m.0.word)) (λ s. step_then (step.Receive (record { member = m.0.number; word = plain_type m.0.word; condition = Some (c.0.core, c.1.core); shape = s.shape })) (l s.scope)) r c.4 in
+    let q = with_step (step.Receive (record { member = m.0.number; word = plain_type m.0.word; condition = Some (c.0.core, c.1.core); shape = s.0.shape })) (l s.0.scope) r s.2 in
     let member = member_stands outer calls given outside there ends name m.0 m.1 in
-    subst (λ (x : LoweredSteps). DoesTheSame x.next.ty (do_act (record { members = ends; env = env_at outer given }) (TakesWordIf name p other) e (λ v. fits v (env_at place inner)) rest (env_at place inner) words) (do_steps calls x.steps x.next.core bound words)) q.2
-    (on_or_off_mean q.0.next.ty (and_then (value_of p (env_at place inner)) truth) (condition_at calls c.0.core bound) (condition_is place calls inner bound at p c.0 c.2)
-    (take_word (word_type_at (record { members = ends; env = env_at outer given }) name) (λ v. fits v (env_at place inner)) rest words)
+    subst (λ (x : LoweredSteps). DoesTheSame x.next.ty (do_act (record { members = ends; env = env_at outer given }) (TakesWordIf name p other) e (λ v. fits v (env_at scope inner)) rest (env_at scope inner) words) (do_steps calls x.steps x.next.core bound words)) q.2
+    (on_or_off_mean q.0.next.ty (and_then (value_of p (env_at scope inner)) truth) (condition_at calls c.0.core bound) (condition_is scope calls inner bound at p c.0 c.2)
+    (take_word (word_type_at (record { members = ends; env = env_at outer given }) name) (λ v. fits v (env_at scope inner)) rest words)
     (receive_on (plain_type m.0.word) s.0.shape (do_steps calls q.0.steps q.0.next.core) bound words)
-    (takes_mean calls outer given ends name m.0 member binds fits shapes l rest means place inner bound at s.0 s.1 q.0 q.1 words)
-    (and_then (value_of other (env_at place inner)) (λ v. Some (pair_with v))) (λ v. fits v (env_at place inner)) rest words s.0.shape (do_steps calls q.0.steps q.0.next.core) bound
+    (takes_mean calls outer given ends name m.0 member binds fits shapes l rest means scope inner bound at s.0 s.1 q.0 q.1 words)
+    (and_then (value_of other (env_at scope inner)) (λ v. Some (pair_with v))) (λ v. fits v (env_at scope inner)) rest words s.0.shape (do_steps calls q.0.steps q.0.next.core) bound
     (and_then (core_value c.1.core calls bound) (λ v. Some (with_token v)))
-    (goes_with calls binds fits shapes l rest means place inner bound at (received m.0.word) s.0 s.1 q.0 q.1 (and_then (value_of other (env_at place inner)) (λ v. Some (pair_with v)))
+    (goes_with calls binds fits shapes l rest means scope inner bound at (received m.0.word) s.0 s.1 q.0 q.1 (and_then (value_of other (env_at scope inner)) (λ v. Some (pair_with v)))
     (and_then (core_value c.1.core calls bound) (λ v. Some (with_token v))) (instead m.0.word c.1 d.0 d.1) words))
   where
-    instead : (t : DslxType) (c : LoweredExpr) → lower_expression other place ≡ Some c → t ≡ c.ty → (v : DslxValue) → and_then (value_of other (env_at place inner)) (λ v. Some (pair_with v)) ≡ Some v
+    instead : (t : DslxType) (c : LoweredExpr) → lower_expression other scope ≡ Some c → t ≡ c.ty → (v : DslxValue) → and_then (value_of other (env_at scope inner)) (λ v. Some (pair_with v)) ≡ Some v
         → (is_of (received t) v ≡ true) × (and_then (core_value c.core calls bound) (λ v. Some (with_token v)) ≡ Some (plain_value v))
     instead t c lc one v h =
-        let w = from_then (value_of other (env_at place inner)) (λ v. Some (pair_with v)) v h in
-        let has = expression_means other place calls inner bound at c lc w.0 w.1 in (
+        let w = from_then (value_of other (env_at scope inner)) (λ v. Some (pair_with v)) v h in
+        let has = expression_means other scope calls inner bound at c lc w.0 w.1 in (
           ap (is_of (received t)) (sym (same_some (pair_with w.0) v w.2)) ∙ pair_of t w.0 (ap (λ u. is_of u w.0) one ∙ has.of),
           ap (λ o. and_then o (λ v. Some (with_token v))) has.core ∙ ap Some (sym (plain_pair w.0) ∙ ap plain_value (same_some (pair_with w.0) v w.2)),
         )
 
 sends_if_mean : (calls : Functions) (outer : CoreScope) (given : List Given) (ends : List End) (name : List ℕ) (p word e : Expr)
     → ActMeans calls outer given ends (lower_act outer ends (SendsWordIf name p word) e) (λ site env binds rest. do_act site (SendsWordIf name p word) e binds rest)
-sends_if_mean calls outer given ends name p word e binds fits shapes l rest means place inner bound at r low words =
-    let m = from_then (member_in outer ends name) (λ m. with_both (lower_expression p place) (of_type m.word (lower_expression word place)) (λ p word. lower_send m (Some p) word binds l place)) r low in
-    let c = from_both (lower_expression p place) (of_type m.0.word (lower_expression word place)) (λ p word. lower_send m.0 (Some p) word binds l place) r m.2 in
-    let d = of_its_type m.0.word (lower_expression word place) c.1 c.3 in
-    let s = from_then (binds place ty.Token) (λ s. step_then (step.Send (record { member = m.0.number; condition = Some c.0.core; word = c.1.core; shape = s.shape })) (l s.place)) r c.4 in
-    let q = with_step (step.Send (record { member = m.0.number; condition = Some c.0.core; word = c.1.core; shape = s.0.shape })) (l s.0.place) r s.2 in
-    subst (λ (x : LoweredSteps). DoesTheSame x.next.ty (do_act (record { members = ends; env = env_at outer given }) (SendsWordIf name p word) e (λ v. fits v (env_at place inner)) rest (env_at place inner) words) (do_steps calls x.steps x.next.core bound words)) q.2
-    (on_or_off_mean q.0.next.ty (and_then (value_of p (env_at place inner)) truth) (condition_at calls c.0.core bound) (condition_is place calls inner bound at p c.0 c.2)
-    (send_word (value_of word (env_at place inner)) (λ v. fits v (env_at place inner)) rest words) (send_on s.0.shape (do_steps calls q.0.steps q.0.next.core) bound (core_value c.1.core calls bound) words)
-    (sends_mean calls word c.1 binds fits shapes l rest means place inner bound at d.0 s.0 s.1 q.0 q.1 words)
-    (Some value.Token) (λ v. fits v (env_at place inner)) rest words s.0.shape (do_steps calls q.0.steps q.0.next.core) bound (Some token)
-    (token_goes_on calls binds fits shapes l rest means place inner bound at s.0 s.1 q.0 q.1 words))
+sends_if_mean calls outer given ends name p word e binds fits shapes l rest means scope inner bound at r low words =
+    let m = from_then (member_in outer ends name) (λ m. with_both (lower_expression p scope) (of_type m.word (lower_expression word scope)) (λ p word. lower_send m (Some p) word binds l scope)) r low in
+    let c = from_both (lower_expression p scope) (of_type m.0.word (lower_expression word scope)) (λ p word. lower_send m.0 (Some p) word binds l scope) r m.2 in
+    let d = of_its_type m.0.word (lower_expression word scope) c.1 c.3 in
+    let s = from_then (binds scope ty.Token) (λ s. step_then (step.Send (record { member = m.0.number; condition = Some c.0.core; word = c.1.core; shape = s.shape })) (l s.scope)) r c.4 in
+    let q = with_step (step.Send (record { member = m.0.number; condition = Some c.0.core; word = c.1.core; shape = s.0.shape })) (l s.0.scope) r s.2 in
+    subst (λ (x : LoweredSteps). DoesTheSame x.next.ty (do_act (record { members = ends; env = env_at outer given }) (SendsWordIf name p word) e (λ v. fits v (env_at scope inner)) rest (env_at scope inner) words) (do_steps calls x.steps x.next.core bound words)) q.2
+    (on_or_off_mean q.0.next.ty (and_then (value_of p (env_at scope inner)) truth) (condition_at calls c.0.core bound) (condition_is scope calls inner bound at p c.0 c.2)
+    (send_word (value_of word (env_at scope inner)) (λ v. fits v (env_at scope inner)) rest words) (send_on s.0.shape (do_steps calls q.0.steps q.0.next.core) bound (core_value c.1.core calls bound) words)
+    (sends_mean calls word c.1 binds fits shapes l rest means scope inner bound at d.0 s.0 s.1 q.0 q.1 words)
+    (Some value.Token) (λ v. fits v (env_at scope inner)) rest words s.0.shape (do_steps calls q.0.steps q.0.next.core) bound (Some token)
+    (token_goes_on calls binds fits shapes l rest means scope inner bound at s.0 s.1 q.0 q.1 words))
 
 act_means : (calls : Functions) (outer : CoreScope) (given : List Given) (outside : Bindings) → SimulatesInScope outer calls given outside → (ends : List End) (act : SiteAct) (e : Expr)
     → ActMeans calls outer given ends (lower_act outer ends act e) (λ site env binds rest. do_act site act e binds rest)
@@ -314,23 +314,23 @@ act_means calls outer given outside there ends (SendsWordIf name p word) e = sen
 act_means calls outer given outside there ends (TakesWord name) e = takes
   where
     takes : ActMeans calls outer given ends (lower_act outer ends (TakesWord name) e) (λ site env binds rest. do_act site (TakesWord name) e binds rest)
-    takes binds fits shapes l rest means place inner bound at r low words =
-        let m = from_then (member_in outer ends name) (λ m. lower_receive m None binds l place) r low in
-        let s = from_then (binds place (received m.0.word)) (λ s. step_then (step.Receive (record { member = m.0.number; word = plain_type m.0.word; condition = None; shape = s.shape })) (l s.place)) r m.2 in
-        let q = with_step (step.Receive (record { member = m.0.number; word = plain_type m.0.word; condition = None; shape = s.0.shape })) (l s.0.place) r s.2 in
-        subst (λ (x : LoweredSteps). DoesTheSame x.next.ty (do_act (record { members = ends; env = env_at outer given }) (TakesWord name) e (λ v. fits v (env_at place inner)) rest (env_at place inner) words) (do_steps calls x.steps x.next.core bound words)) q.2
-        (takes_mean calls outer given ends name m.0 (member_stands outer calls given outside there ends name m.0 m.1) binds fits shapes l rest means place inner bound at s.0 s.1 q.0 q.1 words)
+    takes binds fits shapes l rest means scope inner bound at r low words =
+        let m = from_then (member_in outer ends name) (λ m. lower_receive m None binds l scope) r low in
+        let s = from_then (binds scope (received m.0.word)) (λ s. step_then (step.Receive (record { member = m.0.number; word = plain_type m.0.word; condition = None; shape = s.shape })) (l s.scope)) r m.2 in
+        let q = with_step (step.Receive (record { member = m.0.number; word = plain_type m.0.word; condition = None; shape = s.0.shape })) (l s.0.scope) r s.2 in
+        subst (λ (x : LoweredSteps). DoesTheSame x.next.ty (do_act (record { members = ends; env = env_at outer given }) (TakesWord name) e (λ v. fits v (env_at scope inner)) rest (env_at scope inner) words) (do_steps calls x.steps x.next.core bound words)) q.2
+        (takes_mean calls outer given ends name m.0 (member_stands outer calls given outside there ends name m.0 m.1) binds fits shapes l rest means scope inner bound at s.0 s.1 q.0 q.1 words)
 act_means calls outer given outside there ends (SendsWord name word) e = sends
   where
     sends : ActMeans calls outer given ends (lower_act outer ends (SendsWord name word) e) (λ site env binds rest. do_act site (SendsWord name word) e binds rest)
-    sends binds fits shapes l rest means place inner bound at r low words =
-        let m = from_then (member_in outer ends name) (λ m. and_then (of_type m.word (lower_expression word place)) (λ word. lower_send m None word binds l place)) r low in
-        let c = from_then (of_type m.0.word (lower_expression word place)) (λ word. lower_send m.0 None word binds l place) r m.2 in
-        let d = of_its_type m.0.word (lower_expression word place) c.0 c.1 in
-        let s = from_then (binds place ty.Token) (λ s. step_then (step.Send (record { member = m.0.number; condition = None; word = c.0.core; shape = s.shape })) (l s.place)) r c.2 in
-        let q = with_step (step.Send (record { member = m.0.number; condition = None; word = c.0.core; shape = s.0.shape })) (l s.0.place) r s.2 in
-        subst (λ (x : LoweredSteps). DoesTheSame x.next.ty (do_act (record { members = ends; env = env_at outer given }) (SendsWord name word) e (λ v. fits v (env_at place inner)) rest (env_at place inner) words) (do_steps calls x.steps x.next.core bound words)) q.2
-        (sends_mean calls word c.0 binds fits shapes l rest means place inner bound at d.0 s.0 s.1 q.0 q.1 words)
+    sends binds fits shapes l rest means scope inner bound at r low words =
+        let m = from_then (member_in outer ends name) (λ m. and_then (of_type m.word (lower_expression word scope)) (λ word. lower_send m None word binds l scope)) r low in
+        let c = from_then (of_type m.0.word (lower_expression word scope)) (λ word. lower_send m.0 None word binds l scope) r m.2 in
+        let d = of_its_type m.0.word (lower_expression word scope) c.0 c.1 in
+        let s = from_then (binds scope ty.Token) (λ s. step_then (step.Send (record { member = m.0.number; condition = None; word = c.0.core; shape = s.shape })) (l s.scope)) r c.2 in
+        let q = with_step (step.Send (record { member = m.0.number; condition = None; word = c.0.core; shape = s.0.shape })) (l s.0.scope) r s.2 in
+        subst (λ (x : LoweredSteps). DoesTheSame x.next.ty (do_act (record { members = ends; env = env_at outer given }) (SendsWord name word) e (λ v. fits v (env_at scope inner)) rest (env_at scope inner) words) (do_steps calls x.steps x.next.core bound words)) q.2
+        (sends_mean calls word c.0 binds fits shapes l rest means scope inner bound at d.0 s.0 s.1 q.0 q.1 words)
 
 -- ---- statements
 
@@ -342,22 +342,22 @@ statement_means calls outer given outside there ends (Stmt-F.Let l) low rest mea
 statement_means calls outer given outside there ends (Stmt-F.Bare e) low rest means =
     act_means calls outer given outside there ends (act_of e) e binds_nothing (λ v env. Some env) wild_fits low rest means
 
-last_means : (calls : Functions) (last : Option Expr) (place : CoreScope) (given : List Given) (bound : Bindings) → SimulatesInScope place calls given bound → KeepsValue calls bound (last_of_steps last place) (last_value_of last (env_at place given))
-last_means calls None place given bound at = unit_keeps calls bound
-last_means calls (Some e) place given bound at = expression_means e place calls given bound at
+last_means : (calls : Functions) (last : Option Expr) (scope : CoreScope) (given : List Given) (bound : Bindings) → SimulatesInScope scope calls given bound → KeepsValue calls bound (last_of_steps last scope) (last_value_of last (env_at scope given))
+last_means calls None scope given bound at = unit_keeps calls bound
+last_means calls (Some e) scope given bound at = expression_means e scope calls given bound at
 
 statements_mean : (calls : Functions) (outer : CoreScope) (given : List Given) (outside : Bindings) → SimulatesInScope outer calls given outside → (ends : List End) (ss : List Stmt) (last : Option Expr)
     → StepsMean calls (statements_steps outer ends ss last) (do_stmts (record { members = ends; env = env_at outer given }) ss last)
-statements_mean calls outer given outside there ends [] last place inner bound at r low words =
-    let e = from_then (last_of_steps last place) (λ e. Some (record { steps = []; next = e })) r low in
-    subst (λ (x : LoweredSteps). DoesTheSame x.next.ty (record { turns = []; last = last_value_of last (env_at place inner) }) (do_steps calls x.steps x.next.core bound words)) (same_some (record { steps = []; next = e.0 }) r e.2)
+statements_mean calls outer given outside there ends [] last scope inner bound at r low words =
+    let e = from_then (last_of_steps last scope) (λ e. Some (record { steps = []; next = e })) r low in
+    subst (λ (x : LoweredSteps). DoesTheSame x.next.ty (record { turns = []; last = last_value_of last (env_at scope inner) }) (do_steps calls x.steps x.next.core bound words)) (same_some (record { steps = []; next = e.0 }) r e.2)
     (record {
       turns = λ i turn h. none_some turn h;
-      last = λ v h. let has = last_means calls last place inner bound at e.0 e.1 v h in (has.of, refl, has.core);
+      last = λ v h. let has = last_means calls last scope inner bound at e.0 e.1 v h in (has.of, refl, has.core);
     })
-statements_mean calls outer given outside there ends (s ∷ ss) last place inner bound at r low words =
+statements_mean calls outer given outside there ends (s ∷ ss) last scope inner bound at r low words =
     statement_means calls outer given outside there ends (out-Stmt s) (statements_steps outer ends ss last) (do_stmts (record { members = ends; env = env_at outer given }) ss last)
-    (statements_mean calls outer given outside there ends ss last) place inner bound at r low words
+    (statements_mean calls outer given outside there ends ss last) scope inner bound at r low words
 
 -- ---- an instance of a proc
 

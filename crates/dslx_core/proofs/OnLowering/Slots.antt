@@ -46,26 +46,26 @@ slots_before (l ∷ ls) parametric_args [] bound w h = h
 slots_before (l ∷ ls) parametric_args (g ∷ gs) bound w h = (h.0, h.1, before_end bound w l.slot (plain_value g.value) h.2, slots_before ls parametric_args gs bound w h.3)
 
 -- to no name
-pub unnamed_simulates : (place : CoreScope) (calls : Functions) (given : List Given) (bound : Bindings) (w : Value) → SimulatesInScope place calls given bound → SimulatesInScope (with_unnamed place) calls given (bound ++ w ∷ [])
-unnamed_simulates place calls given bound w h = record {
+pub unnamed_simulates : (scope : CoreScope) (calls : Functions) (given : List Given) (bound : Bindings) (w : Value) → SimulatesInScope scope calls given bound → SimulatesInScope (with_unnamed scope) calls given (bound ++ w ∷ [])
+unnamed_simulates scope calls given bound w h = record {
   known = h.known;
   count = one_longer bound w ∙ ap suc h.count;
-  slots = slots_before place.locals place.known.parametric_args given bound w h.slots;
+  slots = slots_before scope.locals scope.known.parametric_args given bound w h.slots;
   hides = h.hides;
 }
 
 -- to a name that is no constant's
-pub named_simulates : (place : CoreScope) (calls : Functions) (given : List Given) (bound : Bindings) (name : List ℕ) (t : DslxType) (v : DslxValue) → place.known.items.is_constant name ≡ false
-    → is_of t v ≡ true → SimulatesInScope place calls given bound → SimulatesInScope (with_local name t place) calls (record { name = name; value = v } ∷ given) (bound ++ plain_value v ∷ [])
-named_simulates place calls given bound name t v free of h = record {
+pub named_simulates : (scope : CoreScope) (calls : Functions) (given : List Given) (bound : Bindings) (name : List ℕ) (t : DslxType) (v : DslxValue) → scope.known.items.is_constant name ≡ false
+    → is_of t v ≡ true → SimulatesInScope scope calls given bound → SimulatesInScope (with_local name t scope) calls (record { name = name; value = v } ∷ given) (bound ++ plain_value v ∷ [])
+named_simulates scope calls given bound name t v free of h = record {
   known = h.known;
   count = one_longer bound (plain_value v) ∙ ap suc h.count;
-  slots = (refl, of, ap (slice_get (bound ++ plain_value v ∷ [])) (sym h.count) ∙ at_end bound (plain_value v), slots_before place.locals place.known.parametric_args given bound (plain_value v) h.slots);
+  slots = (refl, of, ap (slice_get (bound ++ plain_value v ∷ [])) (sym h.count) ∙ at_end bound (plain_value v), slots_before scope.locals scope.known.parametric_args given bound (plain_value v) h.slots);
   hides = λ n c. hidden n (bytes_eq n name) refl c (h.hides n c);
 }
   where
-    hidden : (n : List ℕ) (b : Bool) → bytes_eq n name ≡ b → place.known.items.is_constant n ≡ true → given_in n given ≡ None → (if b then Some v else given_in n given) ≡ None
-    hidden n true q c rest = absurd (true≢false (sym c ∙ ap place.known.items.is_constant ((bytes_eq-Decides n name).0 q) ∙ free))
+    hidden : (n : List ℕ) (b : Bool) → bytes_eq n name ≡ b → scope.known.items.is_constant n ≡ true → given_in n given ≡ None → (if b then Some v else given_in n given) ≡ None
+    hidden n true q c rest = absurd (true≢false (sym c ∙ ap scope.known.items.is_constant ((bytes_eq-Decides n name).0 q) ∙ free))
     hidden n false q c rest = rest
 
 -- ---- names
@@ -124,38 +124,38 @@ not_local (k ∷ ls) name e = by_name (bytes_eq name k.name) e (not_local ls nam
     by_name true r others = absurd (true≢false r)
     by_name false r others = others r
 
-free_alike : (place : CoreScope) (calls : Functions) (given : List Given) (bound : Bindings) → SimulatesInScope place calls given bound → (names : List (List ℕ))
-    → list_any (λ name. is_in name (slot_names place.locals)) names ≡ false → AreBoundAlike names given place.known.parametric_args
-free_alike place calls given bound h [] e = tt
-free_alike place calls given bound h (n ∷ ns) e =
-    let q = or_false (is_in n (slot_names place.locals)) (list_any (λ name. is_in name (slot_names place.locals)) ns) e in
-    (other_stands place.locals place.known.parametric_args given bound n h.slots (not_local place.locals n q.0), free_alike place calls given bound h ns q.1)
+free_alike : (scope : CoreScope) (calls : Functions) (given : List Given) (bound : Bindings) → SimulatesInScope scope calls given bound → (names : List (List ℕ))
+    → list_any (λ name. is_in name (slot_names scope.locals)) names ≡ false → AreBoundAlike names given scope.known.parametric_args
+free_alike scope calls given bound h [] e = tt
+free_alike scope calls given bound h (n ∷ ns) e =
+    let q = or_false (is_in n (slot_names scope.locals)) (list_any (λ name. is_in name (slot_names scope.locals)) ns) e in
+    (other_stands scope.locals scope.known.parametric_args given bound n h.slots (not_local scope.locals n q.0), free_alike scope calls given bound h ns q.1)
 
--- an expression that names no local has the value of its place where constants are evaluated
-pub same_where_known : (place : CoreScope) (calls : Functions) (given : List Given) (bound : Bindings) → SimulatesInScope place calls given bound → (e : Expr) → sees_a_local place e ≡ false
-    → value_of e (env_at place given) ≡ value_of e (globals_env place.known)
-same_where_known place calls given bound h e f =
-    value_depends e [] (env_at place given) (globals_env place.known) tt
-    (bound_alike place.known.items given place.known.parametric_args (λ name c. h.hides name c ∙ sym (h.known.hides name c)) (mentioned e []) (free_alike place calls given bound h (free_names e) f))
+-- an expression that names no local has in its scope the value that it has where constants are evaluated
+pub same_where_known : (scope : CoreScope) (calls : Functions) (given : List Given) (bound : Bindings) → SimulatesInScope scope calls given bound → (e : Expr) → sees_a_local scope e ≡ false
+    → value_of e (env_at scope given) ≡ value_of e (globals_env scope.known)
+same_where_known scope calls given bound h e f =
+    value_depends e [] (env_at scope given) (globals_env scope.known) tt
+    (bound_alike scope.known.items given scope.known.parametric_args (λ name c. h.hides name c ∙ sym (h.known.hides name c)) (mentioned e []) (free_alike scope calls given bound h (free_names e) f))
 
 from_unless : {A : Type 0} (t : Bool) (o : Option A) (a : A) → unless_local t o ≡ Some a → (t ≡ false) × (o ≡ Some a)
 from_unless true o a e = none_some a e
 from_unless false o a e = (refl, e)
 
-pub constant_means : (place : CoreScope) (calls : Functions) (given : List Given) (bound : Bindings) → SimulatesInScope place calls given bound → (e : Expr) (v : DslxValue) → constant_at place e ≡ Some v
-    → value_of e (env_at place given) ≡ Some v
-constant_means place calls given bound h e v k =
-    let q = from_unless (sees_a_local place e) (value_of e (globals_env place.known)) v k in
-    same_where_known place calls given bound h e q.0 ∙ q.1
+pub constant_means : (scope : CoreScope) (calls : Functions) (given : List Given) (bound : Bindings) → SimulatesInScope scope calls given bound → (e : Expr) (v : DslxValue) → constant_at scope e ≡ Some v
+    → value_of e (env_at scope given) ≡ Some v
+constant_means scope calls given bound h e v k =
+    let q = from_unless (sees_a_local scope e) (value_of e (globals_env scope.known)) v k in
+    same_where_known scope calls given bound h e q.0 ∙ q.1
 
-pub size_means : (place : CoreScope) (calls : Functions) (given : List Given) (bound : Bindings) → SimulatesInScope place calls given bound → (e : Expr) (n : ℕ) → size_at place e ≡ Some n
-    → size_of (denotation e) (env_at place given) ≡ Some n
-size_means place calls given bound h e n k =
-    let q = from_unless (sees_a_local place e) (size_of (denotation e) (globals_env place.known)) n k in
-    ap (λ o. and_then (count_in (denotation e).bare o) some_count) (same_where_known place calls given bound h e q.0) ∙ q.1
+pub size_means : (scope : CoreScope) (calls : Functions) (given : List Given) (bound : Bindings) → SimulatesInScope scope calls given bound → (e : Expr) (n : ℕ) → size_at scope e ≡ Some n
+    → size_of (denotation e) (env_at scope given) ≡ Some n
+size_means scope calls given bound h e n k =
+    let q = from_unless (sees_a_local scope e) (size_of (denotation e) (globals_env scope.known)) n k in
+    ap (λ o. and_then (count_in (denotation e).bare o) some_count) (same_where_known scope calls given bound h e q.0) ∙ q.1
 
-pub bound_means : (place : CoreScope) (calls : Functions) (given : List Given) (bound : Bindings) → SimulatesInScope place calls given bound → (e : Expr) (n : ℕ) → bound_at place e ≡ Some n
-    → bound_of (denotation e) (env_at place given) ≡ Some n
-bound_means place calls given bound h e n k =
-    let q = from_unless (sees_a_local place e) (bound_of (denotation e) (globals_env place.known)) n k in
-    ap (bound_in (denotation e).bare) (same_where_known place calls given bound h e q.0) ∙ q.1
+pub bound_means : (scope : CoreScope) (calls : Functions) (given : List Given) (bound : Bindings) → SimulatesInScope scope calls given bound → (e : Expr) (n : ℕ) → bound_at scope e ≡ Some n
+    → bound_of (denotation e) (env_at scope given) ≡ Some n
+bound_means scope calls given bound h e n k =
+    let q = from_unless (sees_a_local scope e) (bound_of (denotation e) (globals_env scope.known)) n k in
+    ap (bound_in (denotation e).bare) (same_where_known scope calls given bound h e q.0) ∙ q.1

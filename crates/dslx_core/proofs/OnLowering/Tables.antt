@@ -63,41 +63,41 @@ parametric_args_hide items (g ∷ gs) h name c = by_name (bytes_eq name g.name) 
 
 -- ---- arguments
 
-record ArgumentsInScope (outer place : CoreScope) (calls : Functions) (given : List Given) (bound : Bindings) : Type 0 where
-  pub known : place.known ≡ outer.known
-  pub stands : SimulatesInScope place calls given bound
+record ArgumentsInScope (outer scope : CoreScope) (calls : Functions) (given : List Given) (bound : Bindings) : Type 0 where
+  pub known : scope.known ≡ outer.known
+  pub stands : SimulatesInScope scope calls given bound
 
-arguments_simulate : (fs : List Field) (ts : List DslxType) (outer place : CoreScope) → arguments_in_scope fs ts outer ≡ Some place → (calls : Functions) (given : List Given) (bound : Bindings) → SimulatesInScope outer calls given bound
-    → (vs : List DslxValue) → each_of (map is_of ts) vs ≡ true → ArgumentsInScope outer place calls (operands_bound given fs vs) (bound ++ map plain_value vs)
-arguments_simulate [] (t ∷ ts) outer place e calls given bound h vs of = none_some place e
-arguments_simulate (f ∷ fs) [] outer place e calls given bound h vs of = none_some place e
-arguments_simulate [] [] outer place e calls given bound h (v ∷ vs) of = absurd (true≢false (sym of))
-arguments_simulate [] [] outer place e calls given bound h [] of =
-    subst (λ p. ArgumentsInScope outer p calls given (bound ++ [])) (same_some outer place e)
+arguments_simulate : (fs : List Field) (ts : List DslxType) (outer scope : CoreScope) → arguments_in_scope fs ts outer ≡ Some scope → (calls : Functions) (given : List Given) (bound : Bindings) → SimulatesInScope outer calls given bound
+    → (vs : List DslxValue) → each_of (map is_of ts) vs ≡ true → ArgumentsInScope outer scope calls (operands_bound given fs vs) (bound ++ map plain_value vs)
+arguments_simulate [] (t ∷ ts) outer scope e calls given bound h vs of = none_some scope e
+arguments_simulate (f ∷ fs) [] outer scope e calls given bound h vs of = none_some scope e
+arguments_simulate [] [] outer scope e calls given bound h (v ∷ vs) of = absurd (true≢false (sym of))
+arguments_simulate [] [] outer scope e calls given bound h [] of =
+    subst (λ p. ArgumentsInScope outer p calls given (bound ++ [])) (same_some outer scope e)
     (record { known = refl; stands = subst (SimulatesInScope outer calls given) (sym (nothing_behind bound)) h })
   where
     nothing_behind : (bs : Bindings) → (bs ++ []) ≡ bs
     nothing_behind [] = refl
     nothing_behind (b ∷ bs) = ap (λ cs. b ∷ cs) (nothing_behind bs)
-arguments_simulate (f ∷ fs) (t ∷ ts) outer place e calls given bound h [] of = absurd (true≢false (sym of))
-arguments_simulate (f ∷ fs) (t ∷ ts) outer place e calls given bound h (v ∷ vs) of =
+arguments_simulate (f ∷ fs) (t ∷ ts) outer scope e calls given bound h [] of = absurd (true≢false (sym of))
+arguments_simulate (f ∷ fs) (t ∷ ts) outer scope e calls given bound h (v ∷ vs) of =
     by_kind (outer.known.items.is_constant f.name.name) refl e
-    (λ free k. arguments_simulate fs ts (with_local f.name.name t outer) place k calls (record { name = f.name.name; value = v } ∷ given) (bound ++ plain_value v ∷ [])
+    (λ free k. arguments_simulate fs ts (with_local f.name.name t outer) scope k calls (record { name = f.name.name; value = v } ∷ given) (bound ++ plain_value v ∷ [])
     (named_simulates outer calls given bound f.name.name t v free q.0 h) vs q.1)
   where
     q : (is_of t v ≡ true) × (each_of (map is_of ts) vs ≡ true)
     q = and_true (is_of t v) (each_of (map is_of ts) vs) of
 
-    by_kind : (b : Bool) → outer.known.items.is_constant f.name.name ≡ b → (if b then None else arguments_in_scope fs ts (with_local f.name.name t outer)) ≡ Some place
-        → (outer.known.items.is_constant f.name.name ≡ false → arguments_in_scope fs ts (with_local f.name.name t outer) ≡ Some place
-        → ArgumentsInScope (with_local f.name.name t outer) place calls (operands_bound (record { name = f.name.name; value = v } ∷ given) fs vs) ((bound ++ plain_value v ∷ []) ++ map plain_value vs))
-        → ArgumentsInScope outer place calls (operands_bound given (f ∷ fs) (v ∷ vs)) (bound ++ map plain_value (v ∷ vs))
-    by_kind true r k rest = none_some place k
+    by_kind : (b : Bool) → outer.known.items.is_constant f.name.name ≡ b → (if b then None else arguments_in_scope fs ts (with_local f.name.name t outer)) ≡ Some scope
+        → (outer.known.items.is_constant f.name.name ≡ false → arguments_in_scope fs ts (with_local f.name.name t outer) ≡ Some scope
+        → ArgumentsInScope (with_local f.name.name t outer) scope calls (operands_bound (record { name = f.name.name; value = v } ∷ given) fs vs) ((bound ++ plain_value v ∷ []) ++ map plain_value vs))
+        → ArgumentsInScope outer scope calls (operands_bound given (f ∷ fs) (v ∷ vs)) (bound ++ map plain_value (v ∷ vs))
+    by_kind true r k rest = none_some scope k
     by_kind false r k rest =
         let p = rest r k in
         record {
           known = p.known;
-          stands = subst (SimulatesInScope place calls (operands_bound (record { name = f.name.name; value = v } ∷ given) fs vs)) (append_assoc bound (plain_value v ∷ []) (map plain_value vs)) p.stands;
+          stands = subst (SimulatesInScope scope calls (operands_bound (record { name = f.name.name; value = v } ∷ given) fs vs)) (append_assoc bound (plain_value v ∷ []) (map plain_value vs)) p.stands;
         }
 
 each_length : (ts : List DslxType) (vs : List DslxValue) → each_of (map is_of ts) vs ≡ true → length vs ≡ length ts
@@ -118,7 +118,7 @@ pub instance_gives : (known : BodyEnv) (f : Function) (l : LoweredFunction) (cal
 instance_gives known f l calls stands e operands v of k =
     let w = from_where (parametric_args_are_well_typed known.items known.parametric_args) (and_then (argument_types known f.arguments) (lower_function_body known f)) l e in
     let ts = from_then (argument_types known f.arguments) (lower_function_body known f) l w.1 in
-    let p = from_then (arguments_in_scope f.arguments ts.0 (outer_scope known)) (λ place. and_then (lower_block_of_text f.body place) (λ e. Some (record { arguments = ts.0; result = e.ty; body = e.core }))) l ts.2 in
+    let p = from_then (arguments_in_scope f.arguments ts.0 (outer_scope known)) (λ scope. and_then (lower_block_of_text f.body scope) (λ e. Some (record { arguments = ts.0; result = e.ty; body = e.core }))) l ts.2 in
     let b = from_then (lower_block_of_text f.body p.0) (λ e. Some (record { arguments = ts.0; result = e.ty; body = e.core })) l p.2 in
     let is = same_some (record { arguments = ts.0; result = b.0.ty; body = b.0.core }) l b.2 in
     let outer : SimulatesInScope (outer_scope known) calls known.parametric_args [] = record { known = stands; count = refl; slots = refl; hides = stands.hides } in

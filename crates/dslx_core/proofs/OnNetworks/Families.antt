@@ -102,25 +102,25 @@ SpawnsNamed m Named (config_statement.Channel c ∷ ms) = SpawnsNamed m Named ms
 SpawnsNamed m Named (config_statement.Spawn s ∷ ms) = ((q : Proc) → as_proc (item_named s.target.name m.items) ≡ Some q → Named s.target.name) × SpawnsNamed m Named ms
 
 child_simulates : (P : Proc → List DslxValue → Instance → Type 0) (m : Module) (Named : List ℕ → Type 0) (procs : List ProcInstance) (text : Elaboration) (core : CoreElaboration) → ScopesAlike P m Named procs text core
-    → (place : CoreScope) → SimulatesInScope place no_function place.known.parametric_args [] → (p : Proc) (s : Spawn) → ((q : Proc) → as_proc (item_named s.target.name m.items) ≡ Some q → Named s.target.name)
-    → (c : Child) → lower_child m place (numbered_ends p) procs s ≡ Some c → (given : List ℕ) (number : ℕ) → length given ≡ length p.config.ends → (path : List ℕ) (next : ℕ)
-    → FamilySimulates P (spawned m place.known.items text path (env_at place place.known.parametric_args) (handed_over p.config.ends given ++ made_ends number p.config.config_statements) s next)
+    → (scope : CoreScope) → SimulatesInScope scope no_function scope.known.parametric_args [] → (p : Proc) (s : Spawn) → ((q : Proc) → as_proc (item_named s.target.name m.items) ≡ Some q → Named s.target.name)
+    → (c : Child) → lower_child m scope (numbered_ends p) procs s ≡ Some c → (given : List ℕ) (number : ℕ) → length given ≡ length p.config.ends → (path : List ℕ) (next : ℕ)
+    → FamilySimulates P (spawned m scope.known.items text path (env_at scope scope.known.parametric_args) (handed_over p.config.ends given ++ made_ends number p.config.config_statements) s next)
     (core path c.instance (map (channel_of_end given number) c.ends) next)
-child_simulates P m Named procs text core alike place h p s named c e given number many path next =
-    let t = from_then (as_proc (item_named s.target.name m.items)) (λ target. and_then (lower_spawn_parametrics place target s.arguments) (λ parametric_args.
+child_simulates P m Named procs text core alike scope h p s named c e given number many path next =
+    let t = from_then (as_proc (item_named s.target.name m.items)) (λ target. and_then (lower_spawn_parametrics scope target s.arguments) (λ parametric_args.
     with_both (proc_instance_in s.target.name parametric_args 0 procs) (end_numbers (numbered_ends p) s.ends) (λ k ends. where_true (length ends == length target.config.ends) (Some (record { instance = k; ends = ends }))))) c e in
-    let v = from_then (lower_spawn_parametrics place t.0 s.arguments) (λ parametric_args.
+    let v = from_then (lower_spawn_parametrics scope t.0 s.arguments) (λ parametric_args.
     with_both (proc_instance_in s.target.name parametric_args 0 procs) (end_numbers (numbered_ends p) s.ends) (λ k ends. where_true (length ends == length t.0.config.ends) (Some (record { instance = k; ends = ends })))) c t.2 in
     let b = from_both (proc_instance_in s.target.name v.0 0 procs) (end_numbers (numbered_ends p) s.ends) (λ k ends. where_true (length ends == length t.0.config.ends) (Some (record { instance = k; ends = ends }))) c v.2 in
     let w = from_where (length b.1 == length t.0.config.ends) (Some (record { instance = b.0; ends = b.1 })) c b.4 in
     let is = same_some (record { instance = b.0; ends = b.1 }) c w.1 in
     let f = found_proc s.target.name v.0 0 procs b.0 b.2 in
-    let parametric_args = parametric_args_mean place h t.0 s.arguments v.0 v.1 in
+    let parametric_args = parametric_args_mean scope h t.0 s.arguments v.0 v.1 in
     let ends = channels_at p given number many s.ends b.1 b.3 in
     let as_many : length (map (channel_of_end given number) b.1) ≡ length t.0.config.ends = length-map b.1 (channel_of_end given number) ∙ (Decides-eqb (length b.1) (length t.0.config.ends)).0 w.0 in
     let stands = alike f.place f.found f.there (subst Named f.named (named t.0 t.1)) t.0 (ap (λ n. as_proc (item_named n m.items)) (sym f.named) ∙ t.1) path (map (channel_of_end given number) b.1) next as_many in
-    let elaborated : spawned m place.known.items text path env held s next ≡ text path t.0 f.found.parametric_args (handed_over t.0.config.ends (map (channel_of_end given number) b.1)) next =
-    ap (λ o. spawned_at text path held s next o (and_then o (λ q. spawn_parametric_args place.known.items env q s.arguments))) t.1 ∙ ap (spawned_at text path held s next (Some t.0)) parametric_args
+    let elaborated : spawned m scope.known.items text path env held s next ≡ text path t.0 f.found.parametric_args (handed_over t.0.config.ends (map (channel_of_end given number) b.1)) next =
+    ap (λ o. spawned_at text path held s next o (and_then o (λ q. spawn_parametric_args scope.known.items env q s.arguments))) t.1 ∙ ap (spawned_at text path held s next (Some t.0)) parametric_args
     ∙ (λ i. text path t.0 (f.numbered i) (handed_over t.0.config.ends (ends i)) next) in
     let same_core : core path f.place (map (channel_of_end given number) b.1) next ≡ core path c.instance (map (channel_of_end given number) c.ends) next =
     (λ i. core path (sym (f.number ∙ nothing_added f.place) i) (map (channel_of_end given number) b.1) next) ∙ ap (λ (x : Child). core path x.instance (map (channel_of_end given number) x.ends) next) is in
@@ -128,7 +128,7 @@ child_simulates P m Named procs text core alike place h p s named c e given numb
     (subst (FamilySimulates P (text path t.0 f.found.parametric_args (handed_over t.0.config.ends (map (channel_of_end given number) b.1)) next)) same_core stands)
   where
     env : Env
-    env = env_at place place.known.parametric_args
+    env = env_at scope scope.known.parametric_args
 
     held : List Held
     held = handed_over p.config.ends given ++ made_ends number p.config.config_statements
@@ -137,21 +137,21 @@ child_simulates P m Named procs text core alike place h p s named c e given numb
     nothing_added k = omega arith
 
 children_simulate : (P : Proc → List DslxValue → Instance → Type 0) (m : Module) (Named : List ℕ → Type 0) (procs : List ProcInstance) (text : Elaboration) (core : CoreElaboration) → ScopesAlike P m Named procs text core
-    → (place : CoreScope) → SimulatesInScope place no_function place.known.parametric_args [] → (p : Proc) (ms : List ConfigStatement) → SpawnsNamed m Named ms → (cs : List Child) → lower_children m place (numbered_ends p) procs ms ≡ Some cs
+    → (scope : CoreScope) → SimulatesInScope scope no_function scope.known.parametric_args [] → (p : Proc) (ms : List ConfigStatement) → SpawnsNamed m Named ms → (cs : List Child) → lower_children m scope (numbered_ends p) procs ms ≡ Some cs
     → (given : List ℕ) (number : ℕ) → length given ≡ length p.config.ends → (path : List ℕ) (k next : ℕ)
-    → FamilySimulates P (children m place.known.items text path (env_at place place.known.parametric_args) (handed_over p.config.ends given ++ made_ends number p.config.config_statements) ms k next) (core_children core path given number cs k next)
-children_simulate P m Named procs text core alike place h p [] named cs e given number many path k next = subst (λ ds. FamilySimulates P no_family (core_children core path given number ds k next)) (same_some [] cs e) (nobody P)
-children_simulate P m Named procs text core alike place h p (config_statement.Channel c ∷ ms) named cs e given number many path k next = children_simulate P m Named procs text core alike place h p ms named cs e given number many path k next
-children_simulate P m Named procs text core alike place h p (config_statement.Spawn s ∷ ms) named cs e given number many path k next =
-    let q = from_both (lower_child m place (numbered_ends p) procs s) (lower_children m place (numbered_ends p) procs ms) (λ c cs. Some (c ∷ cs)) cs e in
-    let first = child_simulates P m Named procs text core alike place h p s named.0 q.0 q.2 given number many (child_path path k) next in
-    let rest = children_simulate P m Named procs text core alike place h p ms named.1 q.1 q.3 given number many path (suc k) (next + length (own q.0).chans) in
-    let behind = subst (λ n. FamilySimulates P (children m place.known.items text path env held ms (suc k) (next + n)) (core_children core path given number q.1 (suc k) (next + length (own q.0).chans))) (ap length first.chans) rest in
-    subst (λ ds. FamilySimulates P (children m place.known.items text path env held (config_statement.Spawn s ∷ ms) k next) (core_children core path given number ds k next)) (same_some (q.0 ∷ q.1) cs q.4)
-    (families_join P source (own q.0) (children m place.known.items text path env held ms (suc k) (next + length source.chans)) (core_children core path given number q.1 (suc k) (next + length (own q.0).chans)) first behind)
+    → FamilySimulates P (children m scope.known.items text path (env_at scope scope.known.parametric_args) (handed_over p.config.ends given ++ made_ends number p.config.config_statements) ms k next) (core_children core path given number cs k next)
+children_simulate P m Named procs text core alike scope h p [] named cs e given number many path k next = subst (λ ds. FamilySimulates P no_family (core_children core path given number ds k next)) (same_some [] cs e) (nobody P)
+children_simulate P m Named procs text core alike scope h p (config_statement.Channel c ∷ ms) named cs e given number many path k next = children_simulate P m Named procs text core alike scope h p ms named cs e given number many path k next
+children_simulate P m Named procs text core alike scope h p (config_statement.Spawn s ∷ ms) named cs e given number many path k next =
+    let q = from_both (lower_child m scope (numbered_ends p) procs s) (lower_children m scope (numbered_ends p) procs ms) (λ c cs. Some (c ∷ cs)) cs e in
+    let first = child_simulates P m Named procs text core alike scope h p s named.0 q.0 q.2 given number many (child_path path k) next in
+    let rest = children_simulate P m Named procs text core alike scope h p ms named.1 q.1 q.3 given number many path (suc k) (next + length (own q.0).chans) in
+    let behind = subst (λ n. FamilySimulates P (children m scope.known.items text path env held ms (suc k) (next + n)) (core_children core path given number q.1 (suc k) (next + length (own q.0).chans))) (ap length first.chans) rest in
+    subst (λ ds. FamilySimulates P (children m scope.known.items text path env held (config_statement.Spawn s ∷ ms) k next) (core_children core path given number ds k next)) (same_some (q.0 ∷ q.1) cs q.4)
+    (families_join P source (own q.0) (children m scope.known.items text path env held ms (suc k) (next + length source.chans)) (core_children core path given number q.1 (suc k) (next + length (own q.0).chans)) first behind)
   where
     env : Env
-    env = env_at place place.known.parametric_args
+    env = env_at scope scope.known.parametric_args
 
     held : List Held
     held = handed_over p.config.ends given ++ made_ends number p.config.config_statements
@@ -160,7 +160,7 @@ children_simulate P m Named procs text core alike place h p (config_statement.Sp
     own c = core (child_path path k) c.instance (map (channel_of_end given number) c.ends) next
 
     source : Family
-    source = spawned m place.known.items text (child_path path k) env held s next
+    source = spawned m scope.known.items text (child_path path k) env held s next
 
 -- ---- a proc with its children
 
@@ -175,15 +175,15 @@ pub scope_simulates : (P : Proc → List DslxValue → Instance → Type 0) (m :
     → (config : LoweredConfig) → lower_config m items procs p parametric_args ≡ Some config → (i : Instance) → HasConfig i config → P p parametric_args i → (path given : List ℕ) (number : ℕ) → length given ≡ length p.config.ends
     → FamilySimulates P (elaborate_over m items text path p parametric_args (handed_over p.config.ends given) number) (core_elaborate core i path given number)
 scope_simulates P m items Named procs text core alike p parametric_args h named config e i has stands path given number many =
-    let made = from_then (lower_made place p.config.config_statements) (λ made. with_both (lower_children m place (numbered_ends p) procs p.config.config_statements) (end_numbers (numbered_ends p) p.config.result) (λ children members.
+    let made = from_then (lower_made scope p.config.config_statements) (λ made. with_both (lower_children m scope (numbered_ends p) procs p.config.config_statements) (end_numbers (numbered_ends p) p.config.result) (λ children members.
     Some (record { made = made; children = children; members = members }))) config e in
-    let b = from_both (lower_children m place (numbered_ends p) procs p.config.config_statements) (end_numbers (numbered_ends p) p.config.result) (λ children members.
+    let b = from_both (lower_children m scope (numbered_ends p) procs p.config.config_statements) (end_numbers (numbered_ends p) p.config.result) (λ children members.
     Some (record { made = made.0; children = children; members = members })) config made.2 in
     let is = same_some (record { made = made.0; children = b.0; members = b.1 }) config b.4 in
-    let chans = ap (map (made_of path)) (has.made ∙ sym (ap (λ (c : LoweredConfig). c.made) is)) ∙ made_means place h path p.config.config_statements made.0 made.1 in
+    let chans = ap (map (made_of path)) (has.made ∙ sym (ap (λ (c : LoweredConfig). c.made) is)) ∙ made_means scope h path p.config.config_statements made.0 made.1 in
     let children_are = has.children ∙ sym (ap (λ (c : LoweredConfig). c.children) is) in
     let members_are = has.members ∙ sym (ap (λ (c : LoweredConfig). c.members) is) in
-    let rest = children_simulate P m Named procs text core alike place h p p.config.config_statements named b.0 b.2 given number many path 0 (number + length (map (made_of path) i.made)) in
+    let rest = children_simulate P m Named procs text core alike scope h p p.config.config_statements named b.0 b.2 given number many path 0 (number + length (map (made_of path) i.made)) in
     families_join P (record { procs = own ∷ []; chans = made_chans path env p.config.config_statements }) (record { procs = record { path = path; instance = i; channels = map (channel_of_end given number) i.members } ∷ []; chans = map (made_of path) i.made })
     (children m items text path env held p.config.config_statements 0 (number + length (made_chans path env p.config.config_statements)))
     (core_children core path given number i.children 0 (number + length (map (made_of path) i.made)))
@@ -191,11 +191,11 @@ scope_simulates P m items Named procs text core alike p parametric_args h named 
     (subst (λ cs. FamilySimulates P (children m items text path env held p.config.config_statements 0 (number + length (made_chans path env p.config.config_statements))) (core_children core path given number cs 0 (number + length (map (made_of path) i.made)))) (sym children_are)
     (subst (λ n. FamilySimulates P (children m items text path env held p.config.config_statements 0 (number + n)) (core_children core path given number b.0 0 (number + length (map (made_of path) i.made)))) (ap length chans) rest))
   where
-    place : CoreScope
-    place = config_scope items p parametric_args
+    scope : CoreScope
+    scope = config_scope items p parametric_args
 
     env : Env
-    env = env_at place place.known.parametric_args
+    env = env_at scope scope.known.parametric_args
 
     held : List Held
     held = handed_over p.config.ends given ++ made_ends number p.config.config_statements

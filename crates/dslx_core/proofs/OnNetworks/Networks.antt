@@ -51,24 +51,24 @@ heads_alike m items settled own is functions each (a ∷ as') (c ∷ cs) h = λ 
 
 -- ---- outer channels
 
-outer_alike : (place : CoreScope) → SimulatesInScope place no_function place.known.parametric_args [] → (e : End) (o : Outer) → lower_outer place e ≡ Some o → chan_of_outer o ≡ outer_chan (env_at place place.known.parametric_args) e
-outer_alike place h e o k =
-    let t = from_then (lower_type_of_text e.word place) (λ t. Some (record { name = e.name.name; ty = plain_type t; kind = kind_of_end e.direction })) o k in
-    let word = type_of_text_means e.word place no_function place.known.parametric_args [] h t.0 t.1 in
+outer_alike : (scope : CoreScope) → SimulatesInScope scope no_function scope.known.parametric_args [] → (e : End) (o : Outer) → lower_outer scope e ≡ Some o → chan_of_outer o ≡ outer_chan (env_at scope scope.known.parametric_args) e
+outer_alike scope h e o k =
+    let t = from_then (lower_type_of_text e.word scope) (λ t. Some (record { name = e.name.name; ty = plain_type t; kind = kind_of_end e.direction })) o k in
+    let word = type_of_text_means e.word scope no_function scope.known.parametric_args [] h t.0 t.1 in
     sym (ap chan_of_outer (same_some (record { name = e.name.name; ty = plain_type t.0; kind = kind_of_end e.direction }) o t.2))
     ∙ λ i. record { name = e.name.name; ty = plain_or_unit (sym word i); kind = kind_of_end e.direction; depth = 1 }
 
 none_as_long : (n : ℕ) → 0 ≡ suc n → ⊥
 none_as_long n e = omega (arith, e)
 
-outers_each : (place : CoreScope) → SimulatesInScope place no_function place.known.parametric_args [] → (es : List End) (os : List Outer) → map (lower_outer place) es ≡ map Some os
-    → map chan_of_outer os ≡ map (outer_chan (env_at place place.known.parametric_args)) es
-outers_each place h [] [] k = refl
-outers_each place h [] (o ∷ os) k = absurd (none_as_long (length (map Some os)) (ap length k))
-outers_each place h (e ∷ es) [] k = absurd (none_as_long (length (map (lower_outer place) es)) (sym (ap length k)))
-outers_each place h (e ∷ es) (o ∷ os) k =
-    let q = list_parts (lower_outer place e) (Some o) (map (lower_outer place) es) (map Some os) k in
-    λ i. outer_alike place h e o q.0 i ∷ outers_each place h es os q.1 i
+outers_each : (scope : CoreScope) → SimulatesInScope scope no_function scope.known.parametric_args [] → (es : List End) (os : List Outer) → map (lower_outer scope) es ≡ map Some os
+    → map chan_of_outer os ≡ map (outer_chan (env_at scope scope.known.parametric_args)) es
+outers_each scope h [] [] k = refl
+outers_each scope h [] (o ∷ os) k = absurd (none_as_long (length (map Some os)) (ap length k))
+outers_each scope h (e ∷ es) [] k = absurd (none_as_long (length (map (lower_outer scope) es)) (sym (ap length k)))
+outers_each scope h (e ∷ es) (o ∷ os) k =
+    let q = list_parts (lower_outer scope e) (Some o) (map (lower_outer scope) es) (map Some os) k in
+    λ i. outer_alike scope h e o q.0 i ∷ outers_each scope h es os q.1 i
 
 -- the top's ends have the first numbers
 parametric_args_handed : (n : ℕ) (es : List End) (os : List Outer) → length os ≡ length es → outer_ends n es ≡ handed_over es (numbers_from n os)

@@ -31,54 +31,54 @@ arg_means a =
 
 -- ---- channels
 
-depth_means : (place : CoreScope) (h : SimulatesInScope place no_function place.known.parametric_args []) (o : Option Arg) (d : ℕ) → lower_depth place o ≡ Some d → depth_of (env_at place place.known.parametric_args) o ≡ d
-depth_means place h None d e = same_some 1 d e
-depth_means place h (Some a) d e =
-    let n = from_then (size_at place (out-Arg a).value) (λ d. where_true (nat_lt d (2 ^ 32)) (Some d)) d e in
+depth_means : (scope : CoreScope) (h : SimulatesInScope scope no_function scope.known.parametric_args []) (o : Option Arg) (d : ℕ) → lower_depth scope o ≡ Some d → depth_of (env_at scope scope.known.parametric_args) o ≡ d
+depth_means scope h None d e = same_some 1 d e
+depth_means scope h (Some a) d e =
+    let n = from_then (size_at scope (out-Arg a).value) (λ d. where_true (nat_lt d (2 ^ 32)) (Some d)) d e in
     let w = from_where (nat_lt n.0 (2 ^ 32)) (Some n.0) d n.2 in
-    ap (λ (x : ExprDen). depth_in (size_of x (env_at place place.known.parametric_args))) (arg_means a)
-    ∙ ap depth_in (size_means place no_function place.known.parametric_args [] h (out-Arg a).value n.0 n.1) ∙ same_some n.0 d w.1
+    ap (λ (x : ExprDen). depth_in (size_of x (env_at scope scope.known.parametric_args))) (arg_means a)
+    ∙ ap depth_in (size_means scope no_function scope.known.parametric_args [] h (out-Arg a).value n.0 n.1) ∙ same_some n.0 d w.1
   where
     depth_in : Option ℕ → ℕ
     depth_in o = unwrap_or o 1
 
-channel_means : (place : CoreScope) → SimulatesInScope place no_function place.known.parametric_args [] → (path : List ℕ) (c : Channel) (made : MadeChannel) → lower_channel place c ≡ Some made
-    → made_of path made ≡ made_chan path (env_at place place.known.parametric_args) c
-channel_means place h path c made e =
-    let q = from_both (lower_type_of_text c.word place) (lower_depth place c.depth) (λ t d. Some (record { name = c.name.name; ty = plain_type t; depth = d })) made e in
+channel_means : (scope : CoreScope) → SimulatesInScope scope no_function scope.known.parametric_args [] → (path : List ℕ) (c : Channel) (made : MadeChannel) → lower_channel scope c ≡ Some made
+    → made_of path made ≡ made_chan path (env_at scope scope.known.parametric_args) c
+channel_means scope h path c made e =
+    let q = from_both (lower_type_of_text c.word scope) (lower_depth scope c.depth) (λ t d. Some (record { name = c.name.name; ty = plain_type t; depth = d })) made e in
     let is = same_some (record { name = c.name.name; ty = plain_type q.0; depth = q.1 }) made q.4 in
-    let word = type_of_text_means c.word place no_function place.known.parametric_args [] h q.0 q.2 in
-    let depth = depth_means place h c.depth q.1 q.3 in
+    let word = type_of_text_means c.word scope no_function scope.known.parametric_args [] h q.0 q.2 in
+    let depth = depth_means scope h c.depth q.1 q.3 in
     sym (ap (made_of path) is)
     ∙ λ i. record { name = path ++ codes "/" ++ c.name.name; ty = plain_or_unit (sym word i); kind = kind.Inner; depth = sym depth i }
 
-pub made_means : (place : CoreScope) → SimulatesInScope place no_function place.known.parametric_args [] → (path : List ℕ) (ms : List ConfigStatement) (made : List MadeChannel) → lower_made place ms ≡ Some made
-    → map (made_of path) made ≡ made_chans path (env_at place place.known.parametric_args) ms
-made_means place h path [] made e = sym (ap (map (made_of path)) (same_some [] made e))
-made_means place h path (config_statement.Spawn s ∷ ms) made e = made_means place h path ms made e
-made_means place h path (config_statement.Channel c ∷ ms) made e =
-    let q = from_both (lower_channel place c) (lower_made place ms) (λ c cs. Some (c ∷ cs)) made e in
-    sym (ap (map (made_of path)) (same_some (q.0 ∷ q.1) made q.4)) ∙ λ i. channel_means place h path c q.0 q.2 i ∷ made_means place h path ms q.1 q.3 i
+pub made_means : (scope : CoreScope) → SimulatesInScope scope no_function scope.known.parametric_args [] → (path : List ℕ) (ms : List ConfigStatement) (made : List MadeChannel) → lower_made scope ms ≡ Some made
+    → map (made_of path) made ≡ made_chans path (env_at scope scope.known.parametric_args) ms
+made_means scope h path [] made e = sym (ap (map (made_of path)) (same_some [] made e))
+made_means scope h path (config_statement.Spawn s ∷ ms) made e = made_means scope h path ms made e
+made_means scope h path (config_statement.Channel c ∷ ms) made e =
+    let q = from_both (lower_channel scope c) (lower_made scope ms) (λ c cs. Some (c ∷ cs)) made e in
+    sym (ap (map (made_of path)) (same_some (q.0 ∷ q.1) made q.4)) ∙ λ i. channel_means scope h path c q.0 q.2 i ∷ made_means scope h path ms q.1 q.3 i
 
 -- ---- parametric arguments
 
 none_as_long : (n : ℕ) → 0 ≡ suc n → ⊥
 none_as_long n e = omega (arith, e)
 
-arguments_mean : (place : CoreScope) → SimulatesInScope place no_function place.known.parametric_args [] → (as' : List Arg) (vs : List DslxValue) → map (λ (a : Arg). constant_at place (out-Arg a).value) as' ≡ map Some vs
-    → map (λ (e : ExprDen). e.value (env_at place place.known.parametric_args)) (map arg_denotation as') ≡ map Some vs
-arguments_mean place h [] [] e = refl
-arguments_mean place h [] (v ∷ vs) e = absurd (none_as_long (length (map Some vs)) (ap length e))
-arguments_mean place h (a ∷ as') [] e = absurd (none_as_long (length (map (λ (a : Arg). constant_at place (out-Arg a).value) as')) (sym (ap length e)))
-arguments_mean place h (a ∷ as') (v ∷ vs) e =
-    let q = list_parts (constant_at place (out-Arg a).value) (Some v) (map (λ (a : Arg). constant_at place (out-Arg a).value) as') (map Some vs) e in
-    let first = ap (λ (x : ExprDen). x.value (env_at place place.known.parametric_args)) (arg_means a) ∙ constant_means place no_function place.known.parametric_args [] h (out-Arg a).value v q.0 in
-    λ i. first i ∷ arguments_mean place h as' vs q.1 i
+arguments_mean : (scope : CoreScope) → SimulatesInScope scope no_function scope.known.parametric_args [] → (as' : List Arg) (vs : List DslxValue) → map (λ (a : Arg). constant_at scope (out-Arg a).value) as' ≡ map Some vs
+    → map (λ (e : ExprDen). e.value (env_at scope scope.known.parametric_args)) (map arg_denotation as') ≡ map Some vs
+arguments_mean scope h [] [] e = refl
+arguments_mean scope h [] (v ∷ vs) e = absurd (none_as_long (length (map Some vs)) (ap length e))
+arguments_mean scope h (a ∷ as') [] e = absurd (none_as_long (length (map (λ (a : Arg). constant_at scope (out-Arg a).value) as')) (sym (ap length e)))
+arguments_mean scope h (a ∷ as') (v ∷ vs) e =
+    let q = list_parts (constant_at scope (out-Arg a).value) (Some v) (map (λ (a : Arg). constant_at scope (out-Arg a).value) as') (map Some vs) e in
+    let first = ap (λ (x : ExprDen). x.value (env_at scope scope.known.parametric_args)) (arg_means a) ∙ constant_means scope no_function scope.known.parametric_args [] h (out-Arg a).value v q.0 in
+    λ i. first i ∷ arguments_mean scope h as' vs q.1 i
 
-pub parametric_args_mean : (place : CoreScope) → SimulatesInScope place no_function place.known.parametric_args [] → (target : Proc) (as' : List Arg) (parametric_args : List DslxValue) → lower_spawn_parametrics place target as' ≡ Some parametric_args
-    → spawn_parametric_args place.known.items (env_at place place.known.parametric_args) target as' ≡ Some parametric_args
-parametric_args_mean place h target as' parametric_args e =
-    let vs = from_then (all_some (map (λ (a : Arg). constant_at place (out-Arg a).value) as')) (all_parametric_args place.known.items [] [] target.parametrics) parametric_args e in
-    let given = arguments_mean place h as' vs.0 (all_there (map (λ (a : Arg). constant_at place (out-Arg a).value) as') vs.0 vs.1) in
-    ap (λ os. and_then (all_some os) (all_parametric_args place.known.items [] [] target.parametrics)) given
-    ∙ ap (λ o. and_then o (all_parametric_args place.known.items [] [] target.parametrics)) (all_are vs.0) ∙ vs.2
+pub parametric_args_mean : (scope : CoreScope) → SimulatesInScope scope no_function scope.known.parametric_args [] → (target : Proc) (as' : List Arg) (parametric_args : List DslxValue) → lower_spawn_parametrics scope target as' ≡ Some parametric_args
+    → spawn_parametric_args scope.known.items (env_at scope scope.known.parametric_args) target as' ≡ Some parametric_args
+parametric_args_mean scope h target as' parametric_args e =
+    let vs = from_then (all_some (map (λ (a : Arg). constant_at scope (out-Arg a).value) as')) (all_parametric_args scope.known.items [] [] target.parametrics) parametric_args e in
+    let given = arguments_mean scope h as' vs.0 (all_there (map (λ (a : Arg). constant_at scope (out-Arg a).value) as') vs.0 vs.1) in
+    ap (λ os. and_then (all_some os) (all_parametric_args scope.known.items [] [] target.parametrics)) given
+    ∙ ap (λ o. and_then o (all_parametric_args scope.known.items [] [] target.parametrics)) (all_are vs.0) ∙ vs.2

@@ -48,7 +48,7 @@ member_chan outer ends name channels m e =
 
 -- what the steps behind a step have, its own site stands before
 abbrev pub RestHas : List ℕ → StepsLowering → List Site → Type 0
-RestHas channels rest sites = (place : CoreScope) (l : LoweredSteps) → rest place ≡ Some l → sites_of_steps channels l.steps ≡ sites
+RestHas channels rest sites = (scope : CoreScope) (l : LoweredSteps) → rest scope ≡ Some l → sites_of_steps channels l.steps ≡ sites
 
 step_has : (channels : List ℕ) (s : Step) (o : Option LoweredSteps) (sites : List Site) → ((l : LoweredSteps) → o ≡ Some l → sites_of_steps channels l.steps ≡ sites) → (l : LoweredSteps) → step_then s o ≡ Some l
     → sites_of_steps channels l.steps ≡ site_of_step channels s ++ sites
@@ -58,70 +58,70 @@ step_has channels s o sites h l e =
 
 -- a step whose site doesn't depend on what it binds
 bound_has : (channels : List ℕ) (o : Option LoweredShape) (step : LoweredShape → Step) (rest : StepsLowering) (own sites : List Site) → ((s : LoweredShape) → site_of_step channels (step s) ≡ own) → RestHas channels rest sites
-    → (l : LoweredSteps) → and_then o (λ s. step_then (step s) (rest s.place)) ≡ Some l → sites_of_steps channels l.steps ≡ own ++ sites
+    → (l : LoweredSteps) → and_then o (λ s. step_then (step s) (rest s.scope)) ≡ Some l → sites_of_steps channels l.steps ≡ own ++ sites
 bound_has channels o step rest own sites same h l e =
-    let s = from_then o (λ s. step_then (step s) (rest s.place)) l e in
-    step_has channels (step s.0) (rest s.0.place) sites (h s.0.place) l s.2 ∙ ap (λ ss. ss ++ sites) (same s.0)
+    let s = from_then o (λ s. step_then (step s) (rest s.scope)) l e in
+    step_has channels (step s.0) (rest s.0.scope) sites (h s.0.scope) l s.2 ∙ ap (λ ss. ss ++ sites) (same s.0)
 
 at_member : (outer : CoreScope) (ends : List End) (c channels : List ℕ) (sends : Bool) (m : CoreMember) → member_in outer ends c ≡ Some m
     → Path (List Site) (record { chan = get_or channels m.number 0; sends = sends } ∷ []) (site_in ends channels (record { member = c; sends = sends }) ∷ [])
 at_member outer ends c channels sends m e = λ i. record { chan = sym (member_chan outer ends c channels m e) i; sends = sends } ∷ []
 
 receive_has : (outer : CoreScope) (ends : List End) (c channels : List ℕ) (m : CoreMember) → member_in outer ends c ≡ Some m → (o : Option (LoweredExpr × LoweredExpr)) (binds : BindsInScope) (rest : StepsLowering) (sites : List Site) → RestHas channels rest sites
-    → (place : CoreScope) (l : LoweredSteps) → lower_receive m o binds rest place ≡ Some l → sites_of_steps channels l.steps ≡ site_in ends channels (record { member = c; sends = false }) ∷ sites
-receive_has outer ends c channels m e None binds rest sites h place l k =
-    bound_has channels (binds place (received m.word))
+    → (scope : CoreScope) (l : LoweredSteps) → lower_receive m o binds rest scope ≡ Some l → sites_of_steps channels l.steps ≡ site_in ends channels (record { member = c; sends = false }) ∷ sites
+receive_has outer ends c channels m e None binds rest sites h scope l k =
+    bound_has channels (binds scope (received m.word))
     (λ s. step.Receive (record { member = m.number; word = plain_type m.word; condition = None; shape = s.shape })) rest (site_in ends channels (record { member = c; sends = false }) ∷ []) sites
     (λ s. at_member outer ends c channels false m e) h l k
-receive_has outer ends c channels m e (Some both) binds rest sites h place l k =
-    bound_has channels (binds place (received m.word))
+receive_has outer ends c channels m e (Some both) binds rest sites h scope l k =
+    bound_has channels (binds scope (received m.word))
     (λ s. step.Receive (record { member = m.number; word = plain_type m.word; condition = Some (both.0.core, both.1.core); shape = s.shape })) rest (site_in ends channels (record { member = c; sends = false }) ∷ []) sites
     (λ s. at_member outer ends c channels false m e) h l k
 
 send_has : (outer : CoreScope) (ends : List End) (c channels : List ℕ) (m : CoreMember) → member_in outer ends c ≡ Some m → (o : Option LoweredExpr) (word : LoweredExpr) (binds : BindsInScope) (rest : StepsLowering) (sites : List Site) → RestHas channels rest sites
-    → (place : CoreScope) (l : LoweredSteps) → lower_send m o word binds rest place ≡ Some l → sites_of_steps channels l.steps ≡ site_in ends channels (record { member = c; sends = true }) ∷ sites
-send_has outer ends c channels m e None word binds rest sites h place l k =
-    bound_has channels (binds place ty.Token)
+    → (scope : CoreScope) (l : LoweredSteps) → lower_send m o word binds rest scope ≡ Some l → sites_of_steps channels l.steps ≡ site_in ends channels (record { member = c; sends = true }) ∷ sites
+send_has outer ends c channels m e None word binds rest sites h scope l k =
+    bound_has channels (binds scope ty.Token)
     (λ s. step.Send (record { member = m.number; condition = None; word = word.core; shape = s.shape })) rest (site_in ends channels (record { member = c; sends = true }) ∷ []) sites
     (λ s. at_member outer ends c channels true m e) h l k
-send_has outer ends c channels m e (Some p) word binds rest sites h place l k =
-    bound_has channels (binds place ty.Token)
+send_has outer ends c channels m e (Some p) word binds rest sites h scope l k =
+    bound_has channels (binds scope ty.Token)
     (λ s. step.Send (record { member = m.number; condition = Some p.core; word = word.core; shape = s.shape })) rest (site_in ends channels (record { member = c; sends = true }) ∷ []) sites
     (λ s. at_member outer ends c channels true m e) h l k
 
 act_has : (outer : CoreScope) (ends : List End) (channels : List ℕ) (a : SiteAct) (e : Expr) (binds : BindsInScope) (rest : StepsLowering) (sites : List Site) → RestHas channels rest sites
-    → (place : CoreScope) (l : LoweredSteps) → lower_act outer ends a e binds rest place ≡ Some l → sites_of_steps channels l.steps ≡ map (site_in ends channels) (sites_in_act a) ++ sites
-act_has outer ends channels Computes e binds rest sites h place l k =
-    let x = from_then (lower_expression e place) (λ e. lower_compute e binds rest place) l k in
-    bound_has channels (binds place x.0.ty) (λ s. step.Bind x.0.core s.shape) rest [] sites (λ s. refl) h l x.2
-act_has outer ends channels (TakesWord c) e binds rest sites h place l k =
-    let m = from_then (member_in outer ends c) (λ m. lower_receive m None binds rest place) l k in
-    receive_has outer ends c channels m.0 m.1 None binds rest sites h place l m.2
-act_has outer ends channels (TakesWordIf c p other) e binds rest sites h place l k =
-    let m = from_then (member_in outer ends c) (λ m. with_both (lower_expression p place) (of_type m.word (lower_expression other place)) (λ p other. lower_receive m (Some (p, other)) binds rest place)) l k in
-    let b = from_both (lower_expression p place) (of_type m.0.word (lower_expression other place)) (λ p other. lower_receive m.0 (Some (p, other)) binds rest place) l m.2 in
-    receive_has outer ends c channels m.0 m.1 (Some (b.0, b.1)) binds rest sites h place l b.4
-act_has outer ends channels (SendsWord c word) e binds rest sites h place l k =
-    let m = from_then (member_in outer ends c) (λ m. and_then (of_type m.word (lower_expression word place)) (λ word. lower_send m None word binds rest place)) l k in
-    let w = from_then (of_type m.0.word (lower_expression word place)) (λ word. lower_send m.0 None word binds rest place) l m.2 in
-    send_has outer ends c channels m.0 m.1 None w.0 binds rest sites h place l w.2
-act_has outer ends channels (SendsWordIf c p word) e binds rest sites h place l k =
-    let m = from_then (member_in outer ends c) (λ m. with_both (lower_expression p place) (of_type m.word (lower_expression word place)) (λ p word. lower_send m (Some p) word binds rest place)) l k in
-    let b = from_both (lower_expression p place) (of_type m.0.word (lower_expression word place)) (λ p word. lower_send m.0 (Some p) word binds rest place) l m.2 in
-    send_has outer ends c channels m.0 m.1 (Some b.0) b.1 binds rest sites h place l b.4
+    → (scope : CoreScope) (l : LoweredSteps) → lower_act outer ends a e binds rest scope ≡ Some l → sites_of_steps channels l.steps ≡ map (site_in ends channels) (sites_in_act a) ++ sites
+act_has outer ends channels Computes e binds rest sites h scope l k =
+    let x = from_then (lower_expression e scope) (λ e. lower_compute e binds rest scope) l k in
+    bound_has channels (binds scope x.0.ty) (λ s. step.Bind x.0.core s.shape) rest [] sites (λ s. refl) h l x.2
+act_has outer ends channels (TakesWord c) e binds rest sites h scope l k =
+    let m = from_then (member_in outer ends c) (λ m. lower_receive m None binds rest scope) l k in
+    receive_has outer ends c channels m.0 m.1 None binds rest sites h scope l m.2
+act_has outer ends channels (TakesWordIf c p other) e binds rest sites h scope l k =
+    let m = from_then (member_in outer ends c) (λ m. with_both (lower_expression p scope) (of_type m.word (lower_expression other scope)) (λ p other. lower_receive m (Some (p, other)) binds rest scope)) l k in
+    let b = from_both (lower_expression p scope) (of_type m.0.word (lower_expression other scope)) (λ p other. lower_receive m.0 (Some (p, other)) binds rest scope) l m.2 in
+    receive_has outer ends c channels m.0 m.1 (Some (b.0, b.1)) binds rest sites h scope l b.4
+act_has outer ends channels (SendsWord c word) e binds rest sites h scope l k =
+    let m = from_then (member_in outer ends c) (λ m. and_then (of_type m.word (lower_expression word scope)) (λ word. lower_send m None word binds rest scope)) l k in
+    let w = from_then (of_type m.0.word (lower_expression word scope)) (λ word. lower_send m.0 None word binds rest scope) l m.2 in
+    send_has outer ends c channels m.0 m.1 None w.0 binds rest sites h scope l w.2
+act_has outer ends channels (SendsWordIf c p word) e binds rest sites h scope l k =
+    let m = from_then (member_in outer ends c) (λ m. with_both (lower_expression p scope) (of_type m.word (lower_expression word scope)) (λ p word. lower_send m (Some p) word binds rest scope)) l k in
+    let b = from_both (lower_expression p scope) (of_type m.0.word (lower_expression word scope)) (λ p word. lower_send m.0 (Some p) word binds rest scope) l m.2 in
+    send_has outer ends c channels m.0 m.1 (Some b.0) b.1 binds rest sites h scope l b.4
 
 statement_has : (outer : CoreScope) (ends : List End) (channels : List ℕ) (s : StmtLayer) (rest : StepsLowering) (sites : List Site) → RestHas channels rest sites
-    → (place : CoreScope) (l : LoweredSteps) → statement_steps outer ends s rest place ≡ Some l → sites_of_steps channels l.steps ≡ map (site_in ends channels) (sites_in_stmt s) ++ sites
-statement_has outer ends channels (Stmt-F.Let b) rest sites h place l k =
-    act_has outer ends channels (act_of (out-Let b).value) (out-Let b).value (lower_in_scope (lower_pattern_of_text (out-Let b).pattern)) rest sites h place l k
-statement_has outer ends channels (Stmt-F.Bare e) rest sites h place l k = act_has outer ends channels (act_of e) e binds_nothing rest sites h place l k
+    → (scope : CoreScope) (l : LoweredSteps) → statement_steps outer ends s rest scope ≡ Some l → sites_of_steps channels l.steps ≡ map (site_in ends channels) (sites_in_stmt s) ++ sites
+statement_has outer ends channels (Stmt-F.Let b) rest sites h scope l k =
+    act_has outer ends channels (act_of (out-Let b).value) (out-Let b).value (lower_in_scope (lower_pattern_of_text (out-Let b).pattern)) rest sites h scope l k
+statement_has outer ends channels (Stmt-F.Bare e) rest sites h scope l k = act_has outer ends channels (act_of e) e binds_nothing rest sites h scope l k
 
 statements_have : (outer : CoreScope) (ends : List End) (channels : List ℕ) (ss : List Stmt) (last : Option Expr) → RestHas channels (statements_steps outer ends ss last) (map (site_in ends channels) (sites_in_stmts ss))
-statements_have outer ends channels [] last place l e =
-    let v = from_then (last_of_steps last place) (λ e. Some (record { steps = []; next = e })) l e in
+statements_have outer ends channels [] last scope l e =
+    let v = from_then (last_of_steps last scope) (λ e. Some (record { steps = []; next = e })) l e in
     sym (ap (λ (x : LoweredSteps). sites_of_steps channels x.steps) (same_some (record { steps = []; next = v.0 }) l v.2))
-statements_have outer ends channels (s ∷ ss) last place l e =
-    statement_has outer ends channels (out-Stmt s) (statements_steps outer ends ss last) (map (site_in ends channels) (sites_in_stmts ss)) (statements_have outer ends channels ss last) place l e
+statements_have outer ends channels (s ∷ ss) last scope l e =
+    statement_has outer ends channels (out-Stmt s) (statements_steps outer ends ss last) (map (site_in ends channels) (sites_in_stmts ss)) (statements_have outer ends channels ss last) scope l e
     ∙ sym (map-append (site_in ends channels) (sites_in_stmt (out-Stmt s)) (sites_in_stmts ss))
 
 -- the sites of an instance at its channels

@@ -41,11 +41,11 @@ local_in name (l ∷ ls) = if bytes_eq name l.name then Some l else local_in nam
 
 -- one more value is bound, to this name
 abbrev pub with_local : List ℕ → DslxType → CoreScope → CoreScope
-with_local name t place = record { known = place.known; locals = record { name = name; slot = place.count; ty = t } ∷ place.locals; count = suc place.count }
+with_local name t scope = record { known = scope.known; locals = record { name = name; slot = scope.count; ty = t } ∷ scope.locals; count = suc scope.count }
 
 -- one more value is bound, to no name
 abbrev pub with_unnamed : CoreScope → CoreScope
-with_unnamed place = record { known = place.known; locals = place.locals; count = suc place.count }
+with_unnamed scope = record { known = scope.known; locals = scope.locals; count = suc scope.count }
 
 abbrev pub slot_names : List BoundSlot → List (List ℕ)
 slot_names locals = map (λ (l : BoundSlot). l.name) locals
@@ -54,7 +54,7 @@ slot_names locals = map (λ (l : BoundSlot). l.name) locals
 
 -- some name that is free in the expression is bound around it
 abbrev pub sees_a_local : CoreScope → Expr → Bool
-sees_a_local place e = list_any (λ name. is_in name (slot_names place.locals)) (free_names e)
+sees_a_local scope e = list_any (λ name. is_in name (slot_names scope.locals)) (free_names e)
 
 -- what constants see: the items and the parametrics
 abbrev pub globals_env : BodyEnv → Env
@@ -66,10 +66,10 @@ unless_local false o = o
 
 -- the value of a constant, a size, and a bound of a slice
 abbrev pub constant_at : CoreScope → Expr → Option DslxValue
-constant_at place e = unless_local (sees_a_local place e) (value_of e (globals_env place.known))
+constant_at scope e = unless_local (sees_a_local scope e) (value_of e (globals_env scope.known))
 
 abbrev pub size_at : CoreScope → Expr → Option ℕ
-size_at place e = unless_local (sees_a_local place e) (size_of (denotation e) (globals_env place.known))
+size_at scope e = unless_local (sees_a_local scope e) (size_of (denotation e) (globals_env scope.known))
 
 abbrev pub bound_at : CoreScope → Expr → Option ℕ
-bound_at place e = unless_local (sees_a_local place e) (bound_of (denotation e) (globals_env place.known))
+bound_at scope e = unless_local (sees_a_local scope e) (bound_of (denotation e) (globals_env scope.known))

@@ -48,14 +48,14 @@ SlotsSimulate (l ∷ ls) parametric_args (g ∷ gs) bound =
     (g.name ≡ l.name) × (is_of l.ty g.value ≡ true) × (slice_get bound l.slot ≡ Some (plain_value g.value)) × SlotsSimulate ls parametric_args gs bound
 
 -- the scope, where these names are bound in the text, and these values in the core expression that simulates it
-pub record SimulatesInScope (place : CoreScope) (calls : Functions) (given : List Given) (bound : Bindings) : Type 0 where
-  pub known : BodyEnvSimulates place.known calls
-  pub count : length bound ≡ place.count
-  pub slots : SlotsSimulate place.locals place.known.parametric_args given bound
-  pub hides : HidesNoConstant place.known.items given
+pub record SimulatesInScope (scope : CoreScope) (calls : Functions) (given : List Given) (bound : Bindings) : Type 0 where
+  pub known : BodyEnvSimulates scope.known calls
+  pub count : length bound ≡ scope.count
+  pub slots : SlotsSimulate scope.locals scope.known.parametric_args given bound
+  pub hides : HidesNoConstant scope.known.items given
 
 abbrev pub env_at : CoreScope → List Given → Env
-env_at place given = record { items = place.known.items; bound = given }
+env_at scope given = record { items = scope.known.items; bound = given }
 
 -- ---- expressions
 
@@ -70,25 +70,25 @@ KeepsValue calls bound l o = (e : LoweredExpr) → l ≡ Some e → (v : DslxVal
 
 -- in each scope
 abbrev pub LowerPreserves : ExprLowering → ValueDen → Type 0
-LowerPreserves l m = (place : CoreScope) (calls : Functions) (given : List Given) (bound : Bindings) → SimulatesInScope place calls given bound → KeepsValue calls bound (l place) (m (env_at place given))
+LowerPreserves l m = (scope : CoreScope) (calls : Functions) (given : List Given) (bound : Bindings) → SimulatesInScope scope calls given bound → KeepsValue calls bound (l scope) (m (env_at scope given))
 
 -- ---- types and patterns
 
 abbrev pub TypeLowerPreserves : TypeLowering → TypeDen → Type 0
-TypeLowerPreserves l m = (place : CoreScope) (calls : Functions) (given : List Given) (bound : Bindings) → SimulatesInScope place calls given bound → (t : DslxType) → l place ≡ Some t
-    → m (env_at place given) ≡ Some t
+TypeLowerPreserves l m = (scope : CoreScope) (calls : Functions) (given : List Given) (bound : Bindings) → SimulatesInScope scope calls given bound → (t : DslxType) → l scope ≡ Some t
+    → m (env_at scope given) ≡ Some t
 
 -- a value fits a pattern and its shape, and behind them the names are bound at their indices, or it fits neither
-pub data FitLowerPreserves (place : CoreScope) (calls : Functions) (o : Option Env) (p : Option Bindings) : Type 0 where
-  BothFit : (given : List Given) (bound : Bindings) → o ≡ Some (env_at place given) → p ≡ Some bound → SimulatesInScope place calls given bound → FitLowerPreserves place calls o p
-  NeitherFits : o ≡ None → p ≡ None → FitLowerPreserves place calls o p
+pub data FitLowerPreserves (scope : CoreScope) (calls : Functions) (o : Option Env) (p : Option Bindings) : Type 0 where
+  BothFit : (given : List Given) (bound : Bindings) → o ≡ Some (env_at scope given) → p ≡ Some bound → SimulatesInScope scope calls given bound → FitLowerPreserves scope calls o p
+  NeitherFits : o ≡ None → p ≡ None → FitLowerPreserves scope calls o p
 
 -- in a pattern whose own scope is the outer one, behind what it bound so far
 pub record PatternLowerPreserves (l : PatternLowering) (m : PatternDen) : Type 0 where
   pub names : l.names ≡ m.names
-  pub fits : (outer place : CoreScope) (t : DslxType) (s : LoweredShape) → l.lower outer place t ≡ Some s
+  pub fits : (outer scope : CoreScope) (t : DslxType) (s : LoweredShape) → l.lower outer scope t ≡ Some s
       → (calls : Functions) (around : List Given) (others : Bindings) → SimulatesInScope outer calls around others
-      → (given : List Given) (bound : Bindings) → SimulatesInScope place calls given bound → (v : DslxValue) → is_of t v ≡ true
-      → FitLowerPreserves s.place calls (m.fits (env_at outer around) v (env_at place given)) (taken_apart s.shape (plain_value v) bound)
+      → (given : List Given) (bound : Bindings) → SimulatesInScope scope calls given bound → (v : DslxValue) → is_of t v ≡ true
+      → FitLowerPreserves s.scope calls (m.fits (env_at outer around) v (env_at scope given)) (taken_apart s.shape (plain_value v) bound)
   -- where all names are constants' it binds nothing
-  pub bare : (outer place : CoreScope) (t : DslxType) (s : LoweredShape) → l.lower outer place t ≡ Some s → list_all place.known.items.is_constant l.names ≡ true → s.place ≡ place
+  pub bare : (outer scope : CoreScope) (t : DslxType) (s : LoweredShape) → l.lower outer scope t ≡ Some s → list_all scope.known.items.is_constant l.names ≡ true → s.scope ≡ scope

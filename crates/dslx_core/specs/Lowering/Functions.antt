@@ -33,10 +33,10 @@ outer_scope known = record { known = known; locals = []; count = 0 }
 
 -- the arguments in order, none of which has a constant's name
 abbrev pub arguments_in_scope : List Field → List DslxType → CoreScope → Option CoreScope
-arguments_in_scope [] [] place = Some place
-arguments_in_scope (f ∷ fs) (t ∷ ts) place = if place.known.items.is_constant f.name.name then None else arguments_in_scope fs ts (with_local f.name.name t place)
-arguments_in_scope [] (t ∷ ts) place = None
-arguments_in_scope (f ∷ fs) [] place = None
+arguments_in_scope [] [] scope = Some scope
+arguments_in_scope (f ∷ fs) (t ∷ ts) scope = if scope.known.items.is_constant f.name.name then None else arguments_in_scope fs ts (with_local f.name.name t scope)
+arguments_in_scope [] (t ∷ ts) scope = None
+arguments_in_scope (f ∷ fs) [] scope = None
 
 -- parametrics have no constant's name, and values of their own types
 abbrev pub parametric_args_are_well_typed : Meanings → List Given → Bool
@@ -47,8 +47,8 @@ argument_types known fields = all_some (map (λ (f : Field). lower_type_of_text 
 
 abbrev pub lower_function_body : BodyEnv → Function → List DslxType → Option LoweredFunction
 lower_function_body known f ts =
-    and_then (arguments_in_scope f.arguments ts (outer_scope known)) (λ place.
-    and_then (lower_block_of_text f.body place) (λ e. Some (record { arguments = ts; result = e.ty; body = e.core })))
+    and_then (arguments_in_scope f.arguments ts (outer_scope known)) (λ scope.
+    and_then (lower_block_of_text f.body scope) (λ e. Some (record { arguments = ts; result = e.ty; body = e.core })))
 
 -- a function, where its parametrics are bound
 abbrev pub lower_instance : BodyEnv → Function → Option LoweredFunction

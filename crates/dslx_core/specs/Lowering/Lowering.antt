@@ -57,12 +57,12 @@ sign_of t = sign_in (bits_or_enum t)
 -- ---- names and numbers
 
 abbrev pub slot_or_literal : CoreScope → List ℕ → Option BoundSlot → Option LoweredExpr
-slot_or_literal place name None = and_then (or_else (given_in name place.known.parametric_args) (place.known.items.constant name)) literal
-slot_or_literal place name (Some l) = lowered (core.Slot l.slot) l.ty
+slot_or_literal scope name None = and_then (or_else (given_in name scope.known.parametric_args) (scope.known.items.constant name)) literal
+slot_or_literal scope name (Some l) = lowered (core.Slot l.slot) l.ty
 
 -- a bound name, a parametric or a constant
 abbrev pub lower_name : List ℕ → CoreScope → Option LoweredExpr
-lower_name name place = slot_or_literal place name (local_in name place.locals)
+lower_name name scope = slot_or_literal scope name (local_in name scope.locals)
 
 abbrev pub lower_number : Option DslxType → UntypedLiteral → Option LoweredExpr
 lower_number t number = and_then t (λ t. and_then (number_value t number) literal)
@@ -190,19 +190,19 @@ lower_updated (e ∷ i ∷ new ∷ []) =
 lower_updated _ = None
 
 abbrev pub lower_function : CoreScope → List ℕ → List (Option DslxValue) → List (Option LoweredExpr) → Option LoweredExpr
-lower_function place name parametric_args es =
+lower_function scope name parametric_args es =
     with_both (all_some parametric_args) (all_some es)
-    (λ parametric_args es. and_then (place.known.callee name parametric_args (types_of_lowered es)) (λ callee. lowered (core.Call callee.number (cores_of es)) callee.result))
+    (λ parametric_args es. and_then (scope.known.callee name parametric_args (types_of_lowered es)) (λ callee. lowered (core.Call callee.number (cores_of es)) callee.result))
 
 -- effects are no expressions: an activation has them
 abbrev pub lower_call : CallKind → List ℕ → CoreScope → List (Option DslxValue) → List (Option LoweredExpr) → Option LoweredExpr
-lower_call Joins name place parametric_args es = and_then (all_some es) (λ es. lowered (core.Tuple []) ty.Token)
-lower_call CountsLeading name place parametric_args es = lower_counted u.Clz es
-lower_call CountsTrailing name place parametric_args es = lower_counted u.Ctz es
-lower_call Reverses name place parametric_args es = lower_counted u.Rev es
-lower_call AllOnes name place parametric_args es = lower_reduced u.AndReduce es
-lower_call SomeOne name place parametric_args es = lower_reduced u.OrReduce es
-lower_call Parity name place parametric_args es = lower_reduced u.XorReduce es
-lower_call Updates name place parametric_args es = lower_updated es
-lower_call Calls name place parametric_args es = lower_function place name parametric_args es
-lower_call _ name place parametric_args es = None
+lower_call Joins name scope parametric_args es = and_then (all_some es) (λ es. lowered (core.Tuple []) ty.Token)
+lower_call CountsLeading name scope parametric_args es = lower_counted u.Clz es
+lower_call CountsTrailing name scope parametric_args es = lower_counted u.Ctz es
+lower_call Reverses name scope parametric_args es = lower_counted u.Rev es
+lower_call AllOnes name scope parametric_args es = lower_reduced u.AndReduce es
+lower_call SomeOne name scope parametric_args es = lower_reduced u.OrReduce es
+lower_call Parity name scope parametric_args es = lower_reduced u.XorReduce es
+lower_call Updates name scope parametric_args es = lower_updated es
+lower_call Calls name scope parametric_args es = lower_function scope name parametric_args es
+lower_call _ name scope parametric_args es = None

@@ -24,7 +24,7 @@ ExprLowering = CoreScope → Option LoweredExpr
 -- a shape, and the scope behind it
 pub record LoweredShape : Type 0 where
   pub shape : Shape
-  pub place : CoreScope
+  pub scope : CoreScope
 
 -- a pattern: the names in it, and what it is lowered to against values of a type, by the scope of the whole pattern, where its numbers
 -- are evaluated, and the scope behind what is bound so far
@@ -34,35 +34,35 @@ pub record PatternLowering : Type 0 where
 
 -- in its own scope
 abbrev pub lower_in_scope : PatternLowering → CoreScope → DslxType → Option LoweredShape
-lower_in_scope p place t = p.lower place place t
+lower_in_scope p scope t = p.lower scope scope t
 
 abbrev pub shaped : Shape → CoreScope → Option LoweredShape
-shaped s place = Some (record { shape = s; place = place })
+shaped s scope = Some (record { shape = s; scope = scope })
 
 -- a pattern that is one value of the type
 abbrev pub value_shape : Option DslxValue → CoreScope → DslxType → Option LoweredShape
-value_shape v place t = and_then v (λ v. where_true (equal_type t (type_of_value v)) (shaped (shape.Equal (plain_value v)) place))
+value_shape v scope t = and_then v (λ v. where_true (equal_type t (type_of_value v)) (shaped (shape.Equal (plain_value v)) scope))
 
 -- a name that is bound, or a constant's
 abbrev pub name_shape : List ℕ → CoreScope → DslxType → Option LoweredShape
-name_shape name place t =
-    if place.known.items.is_constant name then value_shape (place.known.items.constant name) place t else shaped shape.Bound (with_local name t place)
+name_shape name scope t =
+    if scope.known.items.is_constant name then value_shape (scope.known.items.constant name) scope t else shaped shape.Bound (with_local name t scope)
 
 pub record LoweredShapes : Type 0 where
   pub shapes : List Shape
-  pub place : CoreScope
+  pub scope : CoreScope
 
 -- the parts in order, each behind those before it
 abbrev pub parts_shaped : List PatternLowering → List DslxType → CoreScope → CoreScope → Option LoweredShapes
-parts_shaped [] [] outer place = Some (record { shapes = []; place = place })
-parts_shaped (p ∷ ps) (t ∷ ts) outer place =
-    and_then (p.lower outer place t) (λ s. and_then (parts_shaped ps ts outer s.place) (λ r. Some (record { shapes = s.shape ∷ r.shapes; place = r.place })))
-parts_shaped [] (t ∷ ts) outer place = None
-parts_shaped (p ∷ ps) [] outer place = None
+parts_shaped [] [] outer scope = Some (record { shapes = []; scope = scope })
+parts_shaped (p ∷ ps) (t ∷ ts) outer scope =
+    and_then (p.lower outer scope t) (λ s. and_then (parts_shaped ps ts outer s.scope) (λ r. Some (record { shapes = s.shape ∷ r.shapes; scope = r.scope })))
+parts_shaped [] (t ∷ ts) outer scope = None
+parts_shaped (p ∷ ps) [] outer scope = None
 
 abbrev pub tuple_shape : List PatternLowering → CoreScope → CoreScope → DslxType-F DslxType → Option LoweredShape
-tuple_shape ps outer place (DslxType-F.Tuple ts) = and_then (parts_shaped ps ts outer place) (λ r. shaped (shape.Tuple r.shapes) r.place)
-tuple_shape ps outer place _ = None
+tuple_shape ps outer scope (DslxType-F.Tuple ts) = and_then (parts_shaped ps ts outer scope) (λ r. shaped (shape.Tuple r.shapes) r.scope)
+tuple_shape ps outer scope _ = None
 
 abbrev pub names_of_all : List PatternLowering → List (List ℕ)
 names_of_all [] = []
@@ -83,19 +83,19 @@ arm_of shapes e = Some (record { arm = roll-Arm (record { shapes = shapes; value
 
 -- each alternative in this scope
 abbrev pub alternatives_shaped : List PatternLowering → CoreScope → DslxType → Option (List Shape)
-alternatives_shaped [] place t = Some []
-alternatives_shaped (p ∷ ps) place t = with_both (lower_in_scope p place t) (alternatives_shaped ps place t) (λ s ss. Some (s.shape ∷ ss))
+alternatives_shaped [] scope t = Some []
+alternatives_shaped (p ∷ ps) scope t = with_both (lower_in_scope p scope t) (alternatives_shaped ps scope t) (λ s ss. Some (s.shape ∷ ss))
 
 -- the one pattern of an arm may bind names
 abbrev pub binding_arm : List PatternLowering → ExprLowering → CoreScope → DslxType → Option LoweredArm
-binding_arm (p ∷ []) value place t = and_then (lower_in_scope p place t) (λ s. and_then (value s.place) (arm_of (s.shape ∷ [])))
-binding_arm _ value place t = None
+binding_arm (p ∷ []) value scope t = and_then (lower_in_scope p scope t) (λ s. and_then (value s.scope) (arm_of (s.shape ∷ [])))
+binding_arm _ value scope t = None
 
 abbrev pub lower_arm : ArmLowering → CoreScope → DslxType → Option LoweredArm
-lower_arm a place t =
-    if list_all place.known.items.is_constant (names_of_all a.patterns)
-    then with_both (alternatives_shaped a.patterns place t) (a.value place) arm_of
-    else binding_arm a.patterns a.value place t
+lower_arm a scope t =
+    if list_all scope.known.items.is_constant (names_of_all a.patterns)
+    then with_both (alternatives_shaped a.patterns scope t) (a.value scope) arm_of
+    else binding_arm a.patterns a.value scope t
 
 abbrev pub arms_of : LoweredExpr → List LoweredArm → Option LoweredExpr
 arms_of e [] = None
@@ -103,18 +103,18 @@ arms_of e (a ∷ as') =
     where_true (list_all (λ (c : LoweredArm). equal_type a.ty c.ty) as') (lowered (core.Select e.core (map (λ (c : LoweredArm). c.arm) (a ∷ as'))) a.ty)
 
 abbrev pub lower_match : Option LoweredExpr → List ArmLowering → CoreScope → Option LoweredExpr
-lower_match e arms place = and_then e (λ e. and_then (all_some (map (λ (a : ArmLowering). lower_arm a place e.ty) arms)) (arms_of e))
+lower_match e arms scope = and_then e (λ e. and_then (all_some (map (λ (a : ArmLowering). lower_arm a scope e.ty) arms)) (arms_of e))
 
 -- ---- loops
 
 -- the first index and the one behind the last are constants; a turn gives what is accumulated its type again
 abbrev pub lower_loop : Option LoweredExpr → Option LoweredExpr → Option SignedWord → Option SignedWord → PatternLowering → PatternLowering → ExprLowering → CoreScope → Option LoweredExpr
-lower_loop start index first end i acc body place =
+lower_loop start index first end i acc body scope =
     with_both start index (λ start index.
     with_both first end (λ a b.
-    and_then (lower_in_scope i place index.ty) (λ i.
-    and_then (lower_in_scope acc i.place start.ty) (λ acc.
-    and_then (body acc.place) (λ body.
+    and_then (lower_in_scope i scope index.ty) (λ i.
+    and_then (lower_in_scope acc i.scope start.ty) (λ acc.
+    and_then (body acc.scope) (λ body.
     where_true (equal_type start.ty body.ty && nat_lt (turn_count a b) (2 ^ 64))
     (lowered (core.Loop (turn_count a b) a.word i.shape acc.shape body.core start.core) start.ty))))))
 
@@ -122,5 +122,5 @@ lower_loop start index first end i acc body place =
 
 -- the rest of a block behind a `let`
 abbrev pub lower_let : ExprLowering → PatternLowering → ExprLowering → ExprLowering
-lower_let value pattern rest place =
-    and_then (value place) (λ e. and_then (lower_in_scope pattern place e.ty) (λ s. and_then (rest s.place) (λ r. lowered (core.Bind e.core s.shape r.core) r.ty)))
+lower_let value pattern rest scope =
+    and_then (value scope) (λ e. and_then (lower_in_scope pattern scope e.ty) (λ s. and_then (rest s.scope) (λ r. lowered (core.Bind e.core s.shape r.core) r.ty)))

@@ -90,46 +90,46 @@ abbrev pub step_then : Step → Option LoweredSteps → Option LoweredSteps
 step_then s rest = and_then rest (λ rest. Some (record { steps = s ∷ rest.steps; next = rest.next }))
 
 abbrev pub lower_compute : LoweredExpr → BindsInScope → StepsLowering → StepsLowering
-lower_compute e binds rest place = and_then (binds place e.ty) (λ s. step_then (step.Bind e.core s.shape) (rest s.place))
+lower_compute e binds rest scope = and_then (binds scope e.ty) (λ s. step_then (step.Bind e.core s.shape) (rest s.scope))
 
 abbrev pub lower_receive : CoreMember → Option (LoweredExpr × LoweredExpr) → BindsInScope → StepsLowering → StepsLowering
-lower_receive m None binds rest place =
-    and_then (binds place (received m.word)) (λ s. step_then (step.Receive (record { member = m.number; word = plain_type m.word; condition = None; shape = s.shape })) (rest s.place))
-lower_receive m (Some both) binds rest place =
-    and_then (binds place (received m.word)) (λ s.
-    step_then (step.Receive (record { member = m.number; word = plain_type m.word; condition = Some (both.0.core, both.1.core); shape = s.shape })) (rest s.place))
+lower_receive m None binds rest scope =
+    and_then (binds scope (received m.word)) (λ s. step_then (step.Receive (record { member = m.number; word = plain_type m.word; condition = None; shape = s.shape })) (rest s.scope))
+lower_receive m (Some both) binds rest scope =
+    and_then (binds scope (received m.word)) (λ s.
+    step_then (step.Receive (record { member = m.number; word = plain_type m.word; condition = Some (both.0.core, both.1.core); shape = s.shape })) (rest s.scope))
 
 abbrev pub lower_send : CoreMember → Option LoweredExpr → LoweredExpr → BindsInScope → StepsLowering → StepsLowering
-lower_send m None word binds rest place =
-    and_then (binds place ty.Token) (λ s. step_then (step.Send (record { member = m.number; condition = None; word = word.core; shape = s.shape })) (rest s.place))
-lower_send m (Some c) word binds rest place =
-    and_then (binds place ty.Token) (λ s. step_then (step.Send (record { member = m.number; condition = Some c.core; word = word.core; shape = s.shape })) (rest s.place))
+lower_send m None word binds rest scope =
+    and_then (binds scope ty.Token) (λ s. step_then (step.Send (record { member = m.number; condition = None; word = word.core; shape = s.shape })) (rest s.scope))
+lower_send m (Some c) word binds rest scope =
+    and_then (binds scope ty.Token) (λ s. step_then (step.Send (record { member = m.number; condition = Some c.core; word = word.core; shape = s.shape })) (rest s.scope))
 
 -- what an expression does as a statement or as the whole value of a `let`
 abbrev pub lower_act : CoreScope → List End → SiteAct → Expr → BindsInScope → StepsLowering → StepsLowering
-lower_act outer ends Computes e binds rest place = and_then (lower_expression e place) (λ e. lower_compute e binds rest place)
-lower_act outer ends (TakesWord c) e binds rest place = and_then (member_in outer ends c) (λ m. lower_receive m None binds rest place)
-lower_act outer ends (TakesWordIf c p other) e binds rest place =
-    and_then (member_in outer ends c) (λ m. with_both (lower_expression p place) (of_type m.word (lower_expression other place)) (λ p other. lower_receive m (Some (p, other)) binds rest place))
-lower_act outer ends (SendsWord c word) e binds rest place =
-    and_then (member_in outer ends c) (λ m. and_then (of_type m.word (lower_expression word place)) (λ word. lower_send m None word binds rest place))
-lower_act outer ends (SendsWordIf c p word) e binds rest place =
-    and_then (member_in outer ends c) (λ m. with_both (lower_expression p place) (of_type m.word (lower_expression word place)) (λ p word. lower_send m (Some p) word binds rest place))
+lower_act outer ends Computes e binds rest scope = and_then (lower_expression e scope) (λ e. lower_compute e binds rest scope)
+lower_act outer ends (TakesWord c) e binds rest scope = and_then (member_in outer ends c) (λ m. lower_receive m None binds rest scope)
+lower_act outer ends (TakesWordIf c p other) e binds rest scope =
+    and_then (member_in outer ends c) (λ m. with_both (lower_expression p scope) (of_type m.word (lower_expression other scope)) (λ p other. lower_receive m (Some (p, other)) binds rest scope))
+lower_act outer ends (SendsWord c word) e binds rest scope =
+    and_then (member_in outer ends c) (λ m. and_then (of_type m.word (lower_expression word scope)) (λ word. lower_send m None word binds rest scope))
+lower_act outer ends (SendsWordIf c p word) e binds rest scope =
+    and_then (member_in outer ends c) (λ m. with_both (lower_expression p scope) (of_type m.word (lower_expression word scope)) (λ p word. lower_send m (Some p) word binds rest scope))
 
 abbrev pub binds_nothing : BindsInScope
-binds_nothing place t = shaped shape.Wild place
+binds_nothing scope t = shaped shape.Wild scope
 
 abbrev pub statement_steps : CoreScope → List End → StmtLayer → StepsLowering → StepsLowering
-statement_steps outer ends (Stmt-F.Let l) rest place = lower_act outer ends (act_of (out-Let l).value) (out-Let l).value (lower_in_scope (lower_pattern_of_text (out-Let l).pattern)) rest place
-statement_steps outer ends (Stmt-F.Bare e) rest place = lower_act outer ends (act_of e) e binds_nothing rest place
+statement_steps outer ends (Stmt-F.Let l) rest scope = lower_act outer ends (act_of (out-Let l).value) (out-Let l).value (lower_in_scope (lower_pattern_of_text (out-Let l).pattern)) rest scope
+statement_steps outer ends (Stmt-F.Bare e) rest scope = lower_act outer ends (act_of e) e binds_nothing rest scope
 
 abbrev pub last_of_steps : Option Expr → CoreScope → Option LoweredExpr
-last_of_steps None place = lowered (core.Tuple []) unit_type
-last_of_steps (Some e) place = lower_expression e place
+last_of_steps None scope = lowered (core.Tuple []) unit_type
+last_of_steps (Some e) scope = lower_expression e scope
 
 abbrev pub statements_steps : CoreScope → List End → List Stmt → Option Expr → StepsLowering
-statements_steps outer ends [] last place = and_then (last_of_steps last place) (λ e. Some (record { steps = []; next = e }))
-statements_steps outer ends (s ∷ ss) last place = statement_steps outer ends (out-Stmt s) (statements_steps outer ends ss last) place
+statements_steps outer ends [] last scope = and_then (last_of_steps last scope) (λ e. Some (record { steps = []; next = e }))
+statements_steps outer ends (s ∷ ss) last scope = statement_steps outer ends (out-Stmt s) (statements_steps outer ends ss last) scope
 
 -- ---- an instance of a proc
 

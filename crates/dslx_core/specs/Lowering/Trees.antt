@@ -60,19 +60,19 @@ LoweredPair = Expr × ExprLowering
 -- ---- types
 
 abbrev pub lower_type : TypeNodePart lowering_sorts → TypeLowering
-lower_type (TypeNode-F.Bits s w) place = Some (ty.Bits s w)
-lower_type (TypeNode-F.Wide s e) place = and_then (size_at place e.0) (λ w. Some (ty.Bits s w))
-lower_type TypeNode-F.TypeNode::Bool place = Some bool_type
-lower_type (TypeNode-F.TypeNode::Name name) place = place.known.items.type_named name
-lower_type (TypeNode-F.TypeNode::Tuple ts) place = and_then (all_some (map (λ (t : TypeExpr × TypeLowering). t.1 place) ts)) (λ ts. Some (ty.Tuple ts))
-lower_type (TypeNode-F.TypeNode::Array t e) place = with_both (t.1 place) (size_at place e.0) (λ t n. Some (ty.Array t n))
+lower_type (TypeNode-F.Bits s w) scope = Some (ty.Bits s w)
+lower_type (TypeNode-F.Wide s e) scope = and_then (size_at scope e.0) (λ w. Some (ty.Bits s w))
+lower_type TypeNode-F.TypeNode::Bool scope = Some bool_type
+lower_type (TypeNode-F.TypeNode::Name name) scope = scope.known.items.type_named name
+lower_type (TypeNode-F.TypeNode::Tuple ts) scope = and_then (all_some (map (λ (t : TypeExpr × TypeLowering). t.1 scope) ts)) (λ ts. Some (ty.Tuple ts))
+lower_type (TypeNode-F.TypeNode::Array t e) scope = with_both (t.1 scope) (size_at scope e.0) (λ t n. Some (ty.Array t n))
 
 abbrev pub lower_written : Option (TypeExpr × TypeLowering) → CoreScope → Option DslxType
-lower_written None place = None
-lower_written (Some t) place = t.1 place
+lower_written None scope = None
+lower_written (Some t) scope = t.1 scope
 
 abbrev pub number_meaning : NumberPart lowering_sorts → CoreScope → Option DslxValue
-number_meaning n place = and_then (lower_written n.ty place) (λ t. number_value t (record { is_negative = n.is_negative; value = n.value }))
+number_meaning n scope = and_then (lower_written n.ty scope) (λ t. number_value t (record { is_negative = n.is_negative; value = n.value }))
 
 -- ---- patterns
 
@@ -85,12 +85,12 @@ lower_shape_names (Shape-F.Shape::Tuple ps) = names_of_all (second_parts ps)
 lower_shape_names _ = []
 
 abbrev pub shape_at : ShapePart lowering_sorts → CoreScope → CoreScope → DslxType → Option LoweredShape
-shape_at Shape-F.Wild outer place t = shaped shape.Wild place
-shape_at (Shape-F.Shape::Bool b) outer place t = value_shape (Some (bool_value b)) place t
-shape_at (Shape-F.Shape::Number n) outer place t = value_shape (n.1 outer) place t
-shape_at (Shape-F.Shape::Name name) outer place t = name_shape name place t
-shape_at (Shape-F.Shape::Member e a) outer place t = value_shape (place.known.items.member e.name a.name) place t
-shape_at (Shape-F.Shape::Tuple ps) outer place t = tuple_shape (second_parts ps) outer place (out-DslxType t)
+shape_at Shape-F.Wild outer scope t = shaped shape.Wild scope
+shape_at (Shape-F.Shape::Bool b) outer scope t = value_shape (Some (bool_value b)) scope t
+shape_at (Shape-F.Shape::Number n) outer scope t = value_shape (n.1 outer) scope t
+shape_at (Shape-F.Shape::Name name) outer scope t = name_shape name scope t
+shape_at (Shape-F.Shape::Member e a) outer scope t = value_shape (scope.known.items.member e.name a.name) scope t
+shape_at (Shape-F.Shape::Tuple ps) outer scope t = tuple_shape (second_parts ps) outer scope (out-DslxType t)
 
 abbrev pub lower_shape : ShapePart lowering_sorts → PatternLowering
 lower_shape s = record { names = lower_shape_names s; lower = shape_at s }
@@ -145,37 +145,37 @@ value_written name (f ∷ fs) = if is_in name (f.name ∷ []) then Some f.value 
 
 -- a field that is written, or that of the value which gives the others
 abbrev pub field_or_other : CoreScope → Option LoweredExpr → List ℕ → Option ExprLowering → Option LoweredExpr
-field_or_other place others field None = lower_field others field
-field_or_other place others field (Some value) = value place
+field_or_other scope others field None = lower_field others field
+field_or_other scope others field (Some value) = value scope
 
 abbrev pub lower_fields : CoreScope → List FieldLowering → Option LoweredExpr → List (List ℕ) → List DslxType → Option (List LoweredExpr)
-lower_fields place written others [] [] = Some []
-lower_fields place written others (field ∷ fields) (t ∷ ts) =
-    with_both (of_type t (field_or_other place others field (value_written field written))) (lower_fields place written others fields ts) (λ e es. Some (e ∷ es))
-lower_fields place written others [] (t ∷ ts) = None
-lower_fields place written others (field ∷ fields) [] = None
+lower_fields scope written others [] [] = Some []
+lower_fields scope written others (field ∷ fields) (t ∷ ts) =
+    with_both (of_type t (field_or_other scope others field (value_written field written))) (lower_fields scope written others fields ts) (λ e es. Some (e ∷ es))
+lower_fields scope written others [] (t ∷ ts) = None
+lower_fields scope written others (field ∷ fields) [] = None
 
 abbrev pub names_written : List FieldLowering → List (List ℕ)
 names_written fs = map (λ (f : FieldLowering). f.name) fs
 
 -- the value that gives the others is bound, to no name
 abbrev pub with_others : CoreScope → LoweredExpr → List FieldLowering → DslxType → List (List ℕ) → List DslxType → Option LoweredExpr
-with_others place others written t fields ts =
-    and_then (lower_fields (with_unnamed place) written (lowered (core.Slot place.count) others.ty) fields ts) (λ es. lowered (core.Bind others.core shape.Bound (core.Tuple (cores_of es))) t)
+with_others scope others written t fields ts =
+    and_then (lower_fields (with_unnamed scope) written (lowered (core.Slot scope.count) others.ty) fields ts) (λ es. lowered (core.Bind others.core shape.Bound (core.Tuple (cores_of es))) t)
 
 abbrev pub without_others : CoreScope → List FieldLowering → DslxType → List (List ℕ) → List DslxType → Option LoweredExpr
-without_others place written t fields ts = and_then (lower_fields place written None fields ts) (λ es. lowered (core.Tuple (cores_of es)) t)
+without_others scope written t fields ts = and_then (lower_fields scope written None fields ts) (λ es. lowered (core.Tuple (cores_of es)) t)
 
 -- the expression that has the other fields is lowered only where a field isn't written
 abbrev pub struct_fields : CoreScope → List FieldLowering → Option ExprLowering → DslxType → List (List ℕ) → List DslxType → Option LoweredExpr
-struct_fields place written None t fields ts = without_others place written t fields ts
-struct_fields place written (Some others) t fields ts =
-    if list_all (λ field. is_in field (names_written written)) fields then without_others place written t fields ts
-    else and_then (others place) (λ e. with_others place e written t fields ts)
+struct_fields scope written None t fields ts = without_others scope written t fields ts
+struct_fields scope written (Some others) t fields ts =
+    if list_all (λ field. is_in field (names_written written)) fields then without_others scope written t fields ts
+    else and_then (others scope) (λ e. with_others scope e written t fields ts)
 
 abbrev pub lower_struct_in : CoreScope → List FieldLowering → Option ExprLowering → DslxType-F DslxType → Option LoweredExpr
-lower_struct_in place written others (DslxType-F.Struct name fields ts) = struct_fields place written others (ty.Struct name fields ts) fields ts
-lower_struct_in place written others _ = None
+lower_struct_in scope written others (DslxType-F.Struct name fields ts) = struct_fields scope written others (ty.Struct name fields ts) fields ts
+lower_struct_in scope written others _ = None
 
 abbrev pub others_of : Option LoweredPair → Option ExprLowering
 others_of None = None
@@ -184,45 +184,45 @@ others_of (Some e) = Some e.1
 -- ---- expressions
 
 abbrev pub lower_all : CoreScope → List LoweredPair → List (Option LoweredExpr)
-lower_all place es = map (λ (e : LoweredPair). e.1 place) es
+lower_all scope es = map (λ (e : LoweredPair). e.1 scope) es
 
 abbrev pub lower_node : NodePart lowering_sorts → ExprLowering
-lower_node (Node-F.Node::Number n) place = and_then (n.1 place) literal
-lower_node (Node-F.Node::Bool b) place = literal (bool_value b)
-lower_node (Node-F.Node::Array None es dots) place = lower_array place.count None (map (λ (e : LoweredPair). ((denotation e.0).bare, e.1 place)) es) dots
-lower_node (Node-F.Node::Array (Some t) es dots) place = lower_array place.count (Some (t.1 place)) (map (λ (e : LoweredPair). ((denotation e.0).bare, e.1 place)) es) dots
-lower_node (Node-F.Node::Name name) place = lower_name name place
-lower_node (Node-F.Node::Member e a) place = and_then (place.known.items.member e.name a.name) literal
-lower_node (Node-F.Call f parametric_args es) place = lower_call (kind_of_call f.name) f.name place (map (λ a. constant_at place a.1) parametric_args) (lower_all place es)
-lower_node (Node-F.Node::Tuple es) place = lower_tuple (lower_all place es)
-lower_node (Node-F.Struct s fields rest) place = and_then (place.known.items.struct_named s.name) (λ t. lower_struct_in place (map (λ f. f.1) fields) (others_of rest) (out-DslxType t))
-lower_node (Node-F.Block b) place = b.1 place
-lower_node (Node-F.If c a b) place = lower_choice (c.1 place) (a.1 place) (b.1 place)
-lower_node (Node-F.Match e arms) place = lower_match (e.1 place) (map (λ a. a.1) arms) place
-lower_node (Node-F.For f) place = f.1 place
-lower_node (Node-F.Index e i) place = lower_index (e.1 place) (i.1 place)
-lower_node (Node-F.Slice e a b) place = lower_slice (e.1 place) (bound_at place a.0) (bound_at place b.0)
-lower_node (Node-F.Part e i t) place = lower_part (e.1 place) (i.1 place) (t.1 place)
-lower_node (Node-F.Field e name) place = lower_field (e.1 place) name.name
-lower_node (Node-F.Element e span k) place = lower_element (e.1 place) k
-lower_node (Node-F.Prefix o e) place = lower_prefix o (e.1 place)
-lower_node (Node-F.Cast e t) place = lower_cast (e.1 place) (t.1 place)
-lower_node (Node-F.Binary o l r) place = lower_binary o (l.1 place) (r.1 place)
+lower_node (Node-F.Node::Number n) scope = and_then (n.1 scope) literal
+lower_node (Node-F.Node::Bool b) scope = literal (bool_value b)
+lower_node (Node-F.Node::Array None es dots) scope = lower_array scope.count None (map (λ (e : LoweredPair). ((denotation e.0).bare, e.1 scope)) es) dots
+lower_node (Node-F.Node::Array (Some t) es dots) scope = lower_array scope.count (Some (t.1 scope)) (map (λ (e : LoweredPair). ((denotation e.0).bare, e.1 scope)) es) dots
+lower_node (Node-F.Node::Name name) scope = lower_name name scope
+lower_node (Node-F.Node::Member e a) scope = and_then (scope.known.items.member e.name a.name) literal
+lower_node (Node-F.Call f parametric_args es) scope = lower_call (kind_of_call f.name) f.name scope (map (λ a. constant_at scope a.1) parametric_args) (lower_all scope es)
+lower_node (Node-F.Node::Tuple es) scope = lower_tuple (lower_all scope es)
+lower_node (Node-F.Struct s fields rest) scope = and_then (scope.known.items.struct_named s.name) (λ t. lower_struct_in scope (map (λ f. f.1) fields) (others_of rest) (out-DslxType t))
+lower_node (Node-F.Block b) scope = b.1 scope
+lower_node (Node-F.If c a b) scope = lower_choice (c.1 scope) (a.1 scope) (b.1 scope)
+lower_node (Node-F.Match e arms) scope = lower_match (e.1 scope) (map (λ a. a.1) arms) scope
+lower_node (Node-F.For f) scope = f.1 scope
+lower_node (Node-F.Index e i) scope = lower_index (e.1 scope) (i.1 scope)
+lower_node (Node-F.Slice e a b) scope = lower_slice (e.1 scope) (bound_at scope a.0) (bound_at scope b.0)
+lower_node (Node-F.Part e i t) scope = lower_part (e.1 scope) (i.1 scope) (t.1 scope)
+lower_node (Node-F.Field e name) scope = lower_field (e.1 scope) name.name
+lower_node (Node-F.Element e span k) scope = lower_element (e.1 scope) k
+lower_node (Node-F.Prefix o e) scope = lower_prefix o (e.1 scope)
+lower_node (Node-F.Cast e t) scope = lower_cast (e.1 scope) (t.1 scope)
+lower_node (Node-F.Binary o l r) scope = lower_binary o (l.1 scope) (r.1 scope)
 
 -- ---- statements and blocks
 
 -- the value of an expression that stands as a statement isn't used
 abbrev pub lower_stmt : StmtPart lowering_sorts → ExprLowering → ExprLowering
-lower_stmt (Stmt-F.Let l) rest place = l.1 rest place
-lower_stmt (Stmt-F.Bare e) rest place = rest place
+lower_stmt (Stmt-F.Let l) rest scope = l.1 rest scope
+lower_stmt (Stmt-F.Bare e) rest scope = rest scope
 
 abbrev pub lower_statements : List (ExprLowering → ExprLowering) → ExprLowering → ExprLowering
-lower_statements [] last place = last place
-lower_statements (s ∷ ss) last place = s (lower_statements ss last) place
+lower_statements [] last scope = last scope
+lower_statements (s ∷ ss) last scope = s (lower_statements ss last) scope
 
 abbrev pub lower_last_value : Option LoweredPair → ExprLowering
-lower_last_value None place = lowered (core.Tuple []) unit_type
-lower_last_value (Some e) place = e.1 place
+lower_last_value None scope = lowered (core.Tuple []) unit_type
+lower_last_value (Some e) scope = e.1 scope
 
 abbrev pub lower_block : BlockPart lowering_sorts → ExprLowering
 lower_block b = lower_statements (map (λ s. s.1) b.statements) (lower_last_value b.value)
@@ -237,8 +237,8 @@ abbrev pub lower_field_part : FieldPart lowering_sorts → FieldLowering
 lower_field_part f = record { name = f.name.name; value = lower_field_value f.name.name f.value }
 
 abbrev pub lower_for : ForPart lowering_sorts → ExprLowering
-lower_for f place =
-    lower_loop (f.start.1 place) (f.from.1 place) (and_then (constant_at place f.from.0) bits_of) (and_then (constant_at place f.to.0) bits_of) f.index.1 f.accumulator.1 f.body.1 place
+lower_for f scope =
+    lower_loop (f.start.1 scope) (f.from.1 scope) (and_then (constant_at scope f.from.0) bits_of) (and_then (constant_at scope f.to.0) bits_of) f.index.1 f.accumulator.1 f.body.1 scope
 
 -- ---- the trees
 

@@ -19,7 +19,7 @@ use Rattle.dslx_core.specs.Networks.Configs.{ProcInstance, config_scope}
 use Rattle.dslx_core.specs.Networks.Procs.{procs_from}
 
 abbrev pub lower_outer : CoreScope → End → Option Outer
-lower_outer place e = and_then (lower_type_of_text e.word place) (λ t. Some (record { name = e.name.name; ty = plain_type t; kind = kind_of_end e.direction }))
+lower_outer scope e = and_then (lower_type_of_text e.word scope) (λ t. Some (record { name = e.name.name; ty = plain_type t; kind = kind_of_end e.direction }))
 
 abbrev pub lower_outers : Meanings → Proc → Option (List Outer)
 lower_outers items top = all_some (map (lower_outer (config_scope items top (top_parametric_args items top))) top.config.ends)

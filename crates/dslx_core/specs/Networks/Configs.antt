@@ -38,17 +38,17 @@ config_scope items p parametric_args = outer_scope (config_globals items p param
 -- ---- channels
 
 abbrev pub lower_depth : CoreScope → Option Arg → Option ℕ
-lower_depth place None = Some 1
-lower_depth place (Some a) = and_then (size_at place (out-Arg a).value) (λ d. where_true (nat_lt d (2 ^ 32)) (Some d))
+lower_depth scope None = Some 1
+lower_depth scope (Some a) = and_then (size_at scope (out-Arg a).value) (λ d. where_true (nat_lt d (2 ^ 32)) (Some d))
 
 abbrev pub lower_channel : CoreScope → Channel → Option MadeChannel
-lower_channel place c =
-    with_both (lower_type_of_text c.word place) (lower_depth place c.depth) (λ t d. Some (record { name = c.name.name; ty = plain_type t; depth = d }))
+lower_channel scope c =
+    with_both (lower_type_of_text c.word scope) (lower_depth scope c.depth) (λ t d. Some (record { name = c.name.name; ty = plain_type t; depth = d }))
 
 abbrev pub lower_made : CoreScope → List ConfigStatement → Option (List MadeChannel)
-lower_made place [] = Some []
-lower_made place (config_statement.Channel c ∷ ms) = with_both (lower_channel place c) (lower_made place ms) (λ c cs. Some (c ∷ cs))
-lower_made place (config_statement.Spawn s ∷ ms) = lower_made place ms
+lower_made scope [] = Some []
+lower_made scope (config_statement.Channel c ∷ ms) = with_both (lower_channel scope c) (lower_made scope ms) (λ c cs. Some (c ∷ cs))
+lower_made scope (config_statement.Spawn s ∷ ms) = lower_made scope ms
 
 -- ---- children
 
@@ -61,21 +61,21 @@ proc_instance_in name parametric_args n [] = None
 proc_instance_in name parametric_args n (i ∷ is) = if is_proc_instance name parametric_args i then Some n else proc_instance_in name parametric_args (suc n) is
 
 abbrev pub lower_spawn_parametrics : CoreScope → Proc → List Arg → Option (List DslxValue)
-lower_spawn_parametrics place target arguments =
-    and_then (all_some (map (λ (a : Arg). constant_at place (out-Arg a).value) arguments)) (all_parametric_args place.known.items [] [] target.parametrics)
+lower_spawn_parametrics scope target arguments =
+    and_then (all_some (map (λ (a : Arg). constant_at scope (out-Arg a).value) arguments)) (all_parametric_args scope.known.items [] [] target.parametrics)
 
 -- a spawned proc, which has an instance already, with as many ends as its `config` takes
 abbrev pub lower_child : Module → CoreScope → List Held → List ProcInstance → Spawn → Option Child
-lower_child m place held procs s =
+lower_child m scope held procs s =
     and_then (as_proc (item_named s.target.name m.items)) (λ target.
-    and_then (lower_spawn_parametrics place target s.arguments) (λ parametric_args.
+    and_then (lower_spawn_parametrics scope target s.arguments) (λ parametric_args.
     with_both (proc_instance_in s.target.name parametric_args 0 procs) (end_numbers held s.ends) (λ k ends.
     where_true (length ends == length target.config.ends) (Some (record { instance = k; ends = ends })))))
 
 abbrev pub lower_children : Module → CoreScope → List Held → List ProcInstance → List ConfigStatement → Option (List Child)
-lower_children m place held procs [] = Some []
-lower_children m place held procs (config_statement.Channel c ∷ ms) = lower_children m place held procs ms
-lower_children m place held procs (config_statement.Spawn s ∷ ms) = with_both (lower_child m place held procs s) (lower_children m place held procs ms) (λ c cs. Some (c ∷ cs))
+lower_children m scope held procs [] = Some []
+lower_children m scope held procs (config_statement.Channel c ∷ ms) = lower_children m scope held procs ms
+lower_children m scope held procs (config_statement.Spawn s ∷ ms) = with_both (lower_child m scope held procs s) (lower_children m scope held procs ms) (λ c cs. Some (c ∷ cs))
 
 -- ---- the whole
 
@@ -85,7 +85,7 @@ LoweredConfig = config_data.LoweredConfig
 -- a `config`, where these instances are there to be spawned
 abbrev pub lower_config : Module → Meanings → List ProcInstance → Proc → List DslxValue → Option LoweredConfig
 lower_config m items procs p parametric_args =
-    let place = config_scope items p parametric_args in
-    and_then (lower_made place p.config.config_statements) (λ made.
-    with_both (lower_children m place (numbered_ends p) procs p.config.config_statements) (end_numbers (numbered_ends p) p.config.result) (λ children members.
+    let scope = config_scope items p parametric_args in
+    and_then (lower_made scope p.config.config_statements) (λ made.
+    with_both (lower_children m scope (numbered_ends p) procs p.config.config_statements) (end_numbers (numbered_ends p) p.config.result) (λ children members.
     Some (record { made = made; children = children; members = members })))

@@ -18,8 +18,8 @@ ghost use Rattle.dslx_core.specs.Machines.Alike.Tables.{JoinedTable};
 
 /// What is lowered in a scope is lowered where more calls resolve, and has the same type there.
 pub fn lower_mono()
-    ensures expression { (e : Expr) (place : CoreScope) (c d : CalleesByName) → KnowsMore c d → LowerMono (lower_expression e (with_callee c place)) (lower_expression e (with_callee d place)) }
-    ensures block { (b : Block) (place : CoreScope) (c d : CalleesByName) → KnowsMore c d → LowerMono (lower_block_of_text b (with_callee c place)) (lower_block_of_text b (with_callee d place)) }
+    ensures expression { (e : Expr) (scope : CoreScope) (c d : CalleesByName) → KnowsMore c d → LowerMono (lower_expression e (with_callee c scope)) (lower_expression e (with_callee d scope)) }
+    ensures block { (b : Block) (scope : CoreScope) (c d : CalleesByName) → KnowsMore c d → LowerMono (lower_block_of_text b (with_callee c scope)) (lower_block_of_text b (with_callee d scope)) }
     ensures instance { (m : Module) (items : Meanings) (before other : List CoreInstance) → KnowsMore (callee_in m items before) (callee_in m items other)
         → (i : Instantiated) → MakesMore (next_instance m items before i) (next_instance m items other i) }
 {}
@@ -27,8 +27,8 @@ pub fn lower_mono()
 /// What is lowered in two scopes that differ in what calls resolve to has one type, if the calls that resolve in both
 /// have the same types of results.
 pub fn lower_types_agree()
-    ensures expression { (e : Expr) (place : CoreScope) (c d : CalleesByName) → Agree c d → LowerAgree (lower_expression e (with_callee c place)) (lower_expression e (with_callee d place)) }
-    ensures block { (b : Block) (place : CoreScope) (c d : CalleesByName) → Agree c d → LowerAgree (lower_block_of_text b (with_callee c place)) (lower_block_of_text b (with_callee d place)) }
+    ensures expression { (e : Expr) (scope : CoreScope) (c d : CalleesByName) → Agree c d → LowerAgree (lower_expression e (with_callee c scope)) (lower_expression e (with_callee d scope)) }
+    ensures block { (b : Block) (scope : CoreScope) (c d : CalleesByName) → Agree c d → LowerAgree (lower_block_of_text b (with_callee c scope)) (lower_block_of_text b (with_callee d scope)) }
     ensures instance { (m : Module) (items : Meanings) (before other : List CoreInstance) → Agree (callee_in m items before) (callee_in m items other)
         → (i : Instantiated) → MakesAlike (next_instance m items before i) (next_instance m items other i) }
 {}

@@ -15,6 +15,6 @@ ghost use Rattle.dslx_core.specs.Machines.Alike.Alike.{LowerAgree};
 
 /// An expression has one type by all tables of a text's instances.
 pub fn expressions_have_one_type()
-    ensures { (m : Module) (first second : List CoreInstance) → IsTable m (meanings_of m) first → IsTable m (meanings_of m) second → (e : Expr) (place : CoreScope)
-        → LowerAgree (lower_expression e (with_callee (callee_in m (meanings_of m) first) place)) (lower_expression e (with_callee (callee_in m (meanings_of m) second) place)) }
+    ensures { (m : Module) (first second : List CoreInstance) → IsTable m (meanings_of m) first → IsTable m (meanings_of m) second → (e : Expr) (scope : CoreScope)
+        → LowerAgree (lower_expression e (with_callee (callee_in m (meanings_of m) first) scope)) (lower_expression e (with_callee (callee_in m (meanings_of m) second) scope)) }
 {}

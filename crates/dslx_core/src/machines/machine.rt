@@ -39,6 +39,6 @@ pub fn machine_lowers()
 
 /// Written types and patterns are lowered to the same whatever calls resolve to in their scope.
 pub fn types_and_patterns_know_no_calls()
-    ensures ty { (t : TypeExpr) (place : CoreScope) (c : CalleesByName) → lower_type_of_text t (with_callee c place) ≡ lower_type_of_text t place }
-    ensures pattern { (p : Pattern) (place : CoreScope) (t : DslxType) (c : CalleesByName) → shaped_at p (with_callee c place) t ≡ moved c (shaped_at p place t) }
+    ensures ty { (t : TypeExpr) (scope : CoreScope) (c : CalleesByName) → lower_type_of_text t (with_callee c scope) ≡ lower_type_of_text t scope }
+    ensures pattern { (p : Pattern) (scope : CoreScope) (t : DslxType) (c : CalleesByName) → shaped_at p (with_callee c scope) t ≡ moved c (shaped_at p scope t) }
 {}

@@ -8,4 +8,4 @@ use Rattle.dslx_core.specs.Lowering.CoreScopes.{CoreScope, constant_at}
 
 -- both, if they are bits
 abbrev pub bounds_of : CoreScope → For → Option (SignedWord × SignedWord)
-bounds_of place f = with_both (and_then (constant_at place (out-For f).from) bits_of) (and_then (constant_at place (out-For f).to) bits_of) (λ a b. Some (a, b))
+bounds_of scope f = with_both (and_then (constant_at scope (out-For f).from) bits_of) (and_then (constant_at scope (out-For f).to) bits_of) (λ a b. Some (a, b))

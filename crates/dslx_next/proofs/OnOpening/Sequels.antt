@@ -26,7 +26,7 @@ use Rattle.dslx_next.specs.declared.opening.opened.OpenStep.{OpenStep}
 use Rattle.dslx_next.specs.declared.opening.work.Conditional.{Conditional}
 use Rattle.dslx_next.specs.declared.opening.work.NextScope.{NextScope}
 
--- ---- the same place
+-- ---- the same scope
 
 pub there_itself : (w : BodyWork) → IsThere w w
 there_itself w = record { parametric_args = refl; locals = refl; count = refl }
@@ -166,4 +166,4 @@ without_member k w member f is = never_at_once k.text.now k.limit (λ t. and_the
 
 -- what comes of a member, a condition and a value of its type
 abbrev pub conditional_then : (Conditional → CoreMember → Option OpenStep) → Expr → Expr → CoreScope → CoreMember → Option OpenStep
-conditional_then f c e place m = and_then (conditional m.word c e place) (λ b. f b m)
+conditional_then f c e scope m = and_then (conditional m.word c e scope) (λ b. f b m)

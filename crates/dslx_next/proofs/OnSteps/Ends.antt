@@ -42,11 +42,11 @@ abbrev state_alone : LoweredExpr → Option LoweredSteps
 state_alone e = Some (record { steps = []; next = e })
 
 abbrev ended : Option Expr → StepsLowering
-ended last place = and_then (last_of_steps last place) state_alone
+ended last scope = and_then (last_of_steps last scope) state_alone
 
-in_order : (outer : CoreScope) (k : NextScope) (ss : List Stmt) (last : Option Expr) (place : CoreScope) → statements_steps outer k.ends.now ss last place ≡ statements_then outer k ss (ended last) place
-in_order outer k [] last place = refl
-in_order outer k (s ∷ ss) last place = λ i. statement_steps outer k.ends.now (out-Stmt s) (λ p. in_order outer k ss last p i) place
+in_order : (outer : CoreScope) (k : NextScope) (ss : List Stmt) (last : Option Expr) (scope : CoreScope) → statements_steps outer k.ends.now ss last scope ≡ statements_then outer k ss (ended last) scope
+in_order outer k [] last scope = refl
+in_order outer k (s ∷ ss) last scope = λ i. statement_steps outer k.ends.now (out-Stmt s) (λ p. in_order outer k ss last p i) scope
 
 behind_none : (o : Option LoweredSteps) → behind_steps [] o ≡ o
 behind_none None = refl

@@ -23,46 +23,46 @@ in_turn None p f g h same = refl
 in_turn (Some c) None f g h same = refl
 in_turn (Some c) (Some e) f g h same = same c e
 
-pub act_opens : (outer : CoreScope) (ends : List End) (a : SiteAct) (e : Expr) (binds : BindsInScope) (rest : StepsLowering) (place : CoreScope)
-    → lower_act outer ends a e binds rest place ≡ binds_then (act_opened outer ends a e place) binds rest place
-act_opens outer ends Computes e binds rest place = by (lower_expression e place)
+pub act_opens : (outer : CoreScope) (ends : List End) (a : SiteAct) (e : Expr) (binds : BindsInScope) (rest : StepsLowering) (scope : CoreScope)
+    → lower_act outer ends a e binds rest scope ≡ binds_then (act_opened outer ends a e scope) binds rest scope
+act_opens outer ends Computes e binds rest scope = by (lower_expression e scope)
   where
-    by : (o : Option LoweredExpr) → and_then o (λ e. lower_compute e binds rest place) ≡ binds_then (and_then o computing) binds rest place
+    by : (o : Option LoweredExpr) → and_then o (λ e. lower_compute e binds rest scope) ≡ binds_then (and_then o computing) binds rest scope
     by None = refl
     by (Some e) = refl
-act_opens outer ends (TakesWord c) e binds rest place = by (member_in outer ends c)
+act_opens outer ends (TakesWord c) e binds rest scope = by (member_in outer ends c)
   where
-    by : (o : Option CoreMember) → and_then o (λ m. lower_receive m None binds rest place) ≡ binds_then (and_then o (λ m. receiving m None)) binds rest place
+    by : (o : Option CoreMember) → and_then o (λ m. lower_receive m None binds rest scope) ≡ binds_then (and_then o (λ m. receiving m None)) binds rest scope
     by None = refl
     by (Some m) = refl
-act_opens outer ends (TakesWordIf c p other) e binds rest place = by (member_in outer ends c)
+act_opens outer ends (TakesWordIf c p other) e binds rest scope = by (member_in outer ends c)
   where
     by : (o : Option CoreMember)
-        → and_then o (λ m. with_both (lower_expression p place) (of_type m.word (lower_expression other place)) (λ p other. lower_receive m (Some (p, other)) binds rest place))
-        ≡ binds_then (and_then o (λ m. and_then (and_then (lower_expression p place) (λ c. and_then (of_type m.word (lower_expression other place)) (λ e. Some (record { condition = c; value = e }))))
-        (λ (b : Conditional). receiving m (Some (b.condition.core, b.value.core))))) binds rest place
+        → and_then o (λ m. with_both (lower_expression p scope) (of_type m.word (lower_expression other scope)) (λ p other. lower_receive m (Some (p, other)) binds rest scope))
+        ≡ binds_then (and_then o (λ m. and_then (and_then (lower_expression p scope) (λ c. and_then (of_type m.word (lower_expression other scope)) (λ e. Some (record { condition = c; value = e }))))
+        (λ (b : Conditional). receiving m (Some (b.condition.core, b.value.core))))) binds rest scope
     by None = refl
-    by (Some m) = in_turn (lower_expression p place) (of_type m.word (lower_expression other place)) (λ p other. lower_receive m (Some (p, other)) binds rest place)
-        (λ (b : Conditional). receiving m (Some (b.condition.core, b.value.core))) (λ o. binds_then (Some o) binds rest place) (λ c e. refl)
-act_opens outer ends (SendsWord c word) e binds rest place = by (member_in outer ends c)
+    by (Some m) = in_turn (lower_expression p scope) (of_type m.word (lower_expression other scope)) (λ p other. lower_receive m (Some (p, other)) binds rest scope)
+        (λ (b : Conditional). receiving m (Some (b.condition.core, b.value.core))) (λ o. binds_then (Some o) binds rest scope) (λ c e. refl)
+act_opens outer ends (SendsWord c word) e binds rest scope = by (member_in outer ends c)
   where
-    by_word : (m : CoreMember) (o : Option LoweredExpr) → and_then o (λ word. lower_send m None word binds rest place) ≡ binds_then (and_then o (sending m None)) binds rest place
+    by_word : (m : CoreMember) (o : Option LoweredExpr) → and_then o (λ word. lower_send m None word binds rest scope) ≡ binds_then (and_then o (sending m None)) binds rest scope
     by_word m None = refl
     by_word m (Some w) = refl
 
-    by : (o : Option CoreMember) → and_then o (λ m. and_then (of_type m.word (lower_expression word place)) (λ word. lower_send m None word binds rest place))
-        ≡ binds_then (and_then o (λ m. and_then (of_type m.word (lower_expression word place)) (sending m None))) binds rest place
+    by : (o : Option CoreMember) → and_then o (λ m. and_then (of_type m.word (lower_expression word scope)) (λ word. lower_send m None word binds rest scope))
+        ≡ binds_then (and_then o (λ m. and_then (of_type m.word (lower_expression word scope)) (sending m None))) binds rest scope
     by None = refl
-    by (Some m) = by_word m (of_type m.word (lower_expression word place))
-act_opens outer ends (SendsWordIf c p word) e binds rest place = by (member_in outer ends c)
+    by (Some m) = by_word m (of_type m.word (lower_expression word scope))
+act_opens outer ends (SendsWordIf c p word) e binds rest scope = by (member_in outer ends c)
   where
     by : (o : Option CoreMember)
-        → and_then o (λ m. with_both (lower_expression p place) (of_type m.word (lower_expression word place)) (λ p word. lower_send m (Some p) word binds rest place))
-        ≡ binds_then (and_then o (λ m. and_then (and_then (lower_expression p place) (λ c. and_then (of_type m.word (lower_expression word place)) (λ e. Some (record { condition = c; value = e }))))
-        (λ (b : Conditional). sending m (Some b.condition.core) b.value))) binds rest place
+        → and_then o (λ m. with_both (lower_expression p scope) (of_type m.word (lower_expression word scope)) (λ p word. lower_send m (Some p) word binds rest scope))
+        ≡ binds_then (and_then o (λ m. and_then (and_then (lower_expression p scope) (λ c. and_then (of_type m.word (lower_expression word scope)) (λ e. Some (record { condition = c; value = e }))))
+        (λ (b : Conditional). sending m (Some b.condition.core) b.value))) binds rest scope
     by None = refl
-    by (Some m) = in_turn (lower_expression p place) (of_type m.word (lower_expression word place)) (λ p word. lower_send m (Some p) word binds rest place)
-        (λ (b : Conditional). sending m (Some b.condition.core) b.value) (λ o. binds_then (Some o) binds rest place) (λ c e. refl)
+    by (Some m) = in_turn (lower_expression p scope) (of_type m.word (lower_expression word scope)) (λ p word. lower_send m (Some p) word binds rest scope)
+        (λ (b : Conditional). sending m (Some b.condition.core) b.value) (λ o. binds_then (Some o) binds rest scope) (λ c e. refl)
 
 -- a step behind others
 pub pushed_behind : (steps : List Step) (s : Step) (o : Option LoweredSteps) → behind_steps steps (step_then s o) ≡ behind_steps (steps ++ s ∷ []) o

@@ -73,7 +73,7 @@ module _ (k : NextScope) (w w' : BodyWork) (e : Expr) (binds : BindsInScope) (o 
 
   -- a step by any table, and the rest behind it
   abbrev binds_rest : (t : List CoreInstance) → StepsLowering → OpenStep → Option LoweredShape → Option LoweredSteps
-  binds_rest t rest q shape = and_then shape (λ s. step_then (with_shape q.step s.shape) (rest s.place))
+  binds_rest t rest q shape = and_then shape (λ s. step_then (with_shape q.step s.shape) (rest s.scope))
 
   pub unbound_passed : (steps new_steps : List Step) → ((t : List CoreInstance) → binds (scope_at k w' t) o.ty ≡ None) → BodyPasses k (act_at k w e binds) steps w new_steps None
   unbound_passed steps new_steps none rest =
@@ -87,10 +87,10 @@ module _ (k : NextScope) (w w' : BodyWork) (e : Expr) (binds : BindsInScope) (o 
       → (rest : StepsLowering) → HasState (act_at k w e binds t rest) (rest (scope_at k after t))
   state_behind steps new_steps after bound t is rest r comes =
       let q = from_then (opened_at k w (act_of e) e t) (λ (q : OpenStep). binds_rest t rest q (binds (scope_at k w t) q.ty)) r (sym (act_by k w e binds t rest (opened_at k w (act_of e) e t) refl) ∙ comes) in
-      let s = from_then (binds (scope_at k w t) q.0.ty) (λ s. step_then (with_shape q.0.step s.shape) (rest s.place)) r q.2 in
-      let place : s.0.place ≡ scope_at k after t = ap (λ (x : LoweredShape). x.place) (same_some s.0 (record { shape = bound.shape; place = scope_at k after t }) (sym s.1 ∙ binds_type t is q.0 q.1 ∙ bound.bound t)) in
-      let x = from_then (rest s.0.place) (λ (x : LoweredSteps). Some (record { steps = with_shape q.0.step s.0.shape ∷ x.steps; next = x.next })) r s.2 in
-      (x.0, ap rest (sym place) ∙ x.1, ap (λ (l : LoweredSteps). l.next) (sym (same_some (record { steps = with_shape q.0.step s.0.shape ∷ x.0.steps; next = x.0.next }) r x.2)))
+      let s = from_then (binds (scope_at k w t) q.0.ty) (λ s. step_then (with_shape q.0.step s.shape) (rest s.scope)) r q.2 in
+      let scope : s.0.scope ≡ scope_at k after t = ap (λ (x : LoweredShape). x.scope) (same_some s.0 (record { shape = bound.shape; scope = scope_at k after t }) (sym s.1 ∙ binds_type t is q.0 q.1 ∙ bound.bound t)) in
+      let x = from_then (rest s.0.scope) (λ (x : LoweredSteps). Some (record { steps = with_shape q.0.step s.0.shape ∷ x.steps; next = x.next })) r s.2 in
+      (x.0, ap rest (sym scope) ∙ x.1, ap (λ (l : LoweredSteps). l.next) (sym (same_some (record { steps = with_shape q.0.step s.0.shape ∷ x.0.steps; next = x.0.next }) r x.2)))
 
   pub shape_passed : (steps new_steps : List Step) (after : BodyWork) → IsBound k binds o steps w' new_steps after → IsPassed k (act_at k w e binds) steps w new_steps after
   shape_passed steps new_steps after bound = record {

@@ -41,30 +41,30 @@ sending m c word = opened (step.Send (record { member = m.number; condition = c;
 
 -- a condition, and a value of the type
 abbrev pub conditional : DslxType → Expr → Expr → CoreScope → Option Conditional
-conditional t c e place = and_then (lower_expression c place) (λ c. and_then (of_type t (lower_expression e place)) (λ e. Some (record { condition = c; value = e })))
+conditional t c e scope = and_then (lower_expression c scope) (λ c. and_then (of_type t (lower_expression e scope)) (λ e. Some (record { condition = c; value = e })))
 
 abbrev pub receive_opened : Option CoreMember → Option OpenStep
 receive_opened m = and_then m (λ m. receiving m None)
 
 abbrev pub receive_if_opened : Option CoreMember → Expr → Expr → CoreScope → Option OpenStep
-receive_if_opened m c other place = and_then m (λ m. and_then (conditional m.word c other place) (λ (b : Conditional). receiving m (Some (b.condition.core, b.value.core))))
+receive_if_opened m c other scope = and_then m (λ m. and_then (conditional m.word c other scope) (λ (b : Conditional). receiving m (Some (b.condition.core, b.value.core))))
 
 abbrev pub send_opened : Option CoreMember → Expr → CoreScope → Option OpenStep
-send_opened m word place = and_then m (λ m. and_then (of_type m.word (lower_expression word place)) (sending m None))
+send_opened m word scope = and_then m (λ m. and_then (of_type m.word (lower_expression word scope)) (sending m None))
 
 abbrev pub send_if_opened : Option CoreMember → Expr → Expr → CoreScope → Option OpenStep
-send_if_opened m c word place = and_then m (λ m. and_then (conditional m.word c word place) (λ (b : Conditional). sending m (Some b.condition.core) b.value))
+send_if_opened m c word scope = and_then m (λ m. and_then (conditional m.word c word scope) (λ (b : Conditional). sending m (Some b.condition.core) b.value))
 
 -- ---- any expression
 
 -- as a statement or as the whole value of a `let`
 abbrev pub act_opened : CoreScope → List End → SiteAct → Expr → CoreScope → Option OpenStep
-act_opened outer ends Computes e place = and_then (lower_expression e place) computing
-act_opened outer ends (TakesWord c) e place = receive_opened (member_in outer ends c)
-act_opened outer ends (TakesWordIf c p other) e place = receive_if_opened (member_in outer ends c) p other place
-act_opened outer ends (SendsWord c word) e place = send_opened (member_in outer ends c) word place
-act_opened outer ends (SendsWordIf c p word) e place = send_if_opened (member_in outer ends c) p word place
+act_opened outer ends Computes e scope = and_then (lower_expression e scope) computing
+act_opened outer ends (TakesWord c) e scope = receive_opened (member_in outer ends c)
+act_opened outer ends (TakesWordIf c p other) e scope = receive_if_opened (member_in outer ends c) p other scope
+act_opened outer ends (SendsWord c word) e scope = send_opened (member_in outer ends c) word scope
+act_opened outer ends (SendsWordIf c p word) e scope = send_if_opened (member_in outer ends c) p word scope
 
 -- what it binds, and the steps behind it
 abbrev pub binds_then : Option OpenStep → BindsInScope → StepsLowering → StepsLowering
-binds_then o binds rest place = and_then o (λ (o : OpenStep). and_then (binds place o.ty) (λ s. step_then (with_shape o.step s.shape) (rest s.place)))
+binds_then o binds rest scope = and_then o (λ (o : OpenStep). and_then (binds scope o.ty) (λ s. step_then (with_shape o.step s.shape) (rest s.scope)))

@@ -56,8 +56,8 @@ statement_at k w s table rest = statement_steps (outer_at k w table) k.ends.now 
 
 -- these in order
 abbrev pub statements_then : CoreScope → NextScope → List Stmt → StepsLowering → StepsLowering
-statements_then outer k [] rest place = rest place
-statements_then outer k (s ∷ ss) rest place = statement_steps outer k.ends.now (out-Stmt s) (statements_then outer k ss rest) place
+statements_then outer k [] rest scope = rest scope
+statements_then outer k (s ∷ ss) rest scope = statement_steps outer k.ends.now (out-Stmt s) (statements_then outer k ss rest) scope
 
 abbrev pub statements_at : NextScope → BodyWork → List Stmt → Leads
 statements_at k w ss table rest = statements_then (outer_at k w table) k ss rest (scope_at k w table)

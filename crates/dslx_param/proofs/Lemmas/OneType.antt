@@ -18,9 +18,9 @@ pub use Rattle.dslx_param.proofs.OnNeeded.Called.{are_all}
 in_whole : (m : Module) (these : List CoreInstance) (are : AreOfTable m these) → FoundAmong these are.table
 in_whole m these are name parametric_args p e = let k = are.found name parametric_args p e in ((k.0, p.1), k.1, record { arguments = refl; result = refl })
 
-pub one_type_of : ExprsAreMono → (m : Module) (first second : List CoreInstance) → AreOfTable m first → AreOfTable m second → (e : Expr) (place : CoreScope)
-    → LowerAgree (lower_expression e (with_callee (calls_by m first) place)) (lower_expression e (with_callee (calls_by m second) place))
-one_type_of mono m first second are other e place r s by_first by_second =
-    let x = mono e place (calls_by m first) (calls_by m are.table) (knows_more m (meanings_of m) first are.table (in_whole m first are)) r by_first in
-    let y = mono e place (calls_by m second) (calls_by m other.table) (knows_more m (meanings_of m) second other.table (in_whole m second other)) s by_second in
-    x.2 ∙ one_type m are.table other.table are.is_table other.is_table e place x.0 y.0 x.1 y.1 ∙ sym y.2
+pub one_type_of : ExprsAreMono → (m : Module) (first second : List CoreInstance) → AreOfTable m first → AreOfTable m second → (e : Expr) (scope : CoreScope)
+    → LowerAgree (lower_expression e (with_callee (calls_by m first) scope)) (lower_expression e (with_callee (calls_by m second) scope))
+one_type_of mono m first second are other e scope r s by_first by_second =
+    let x = mono e scope (calls_by m first) (calls_by m are.table) (knows_more m (meanings_of m) first are.table (in_whole m first are)) r by_first in
+    let y = mono e scope (calls_by m second) (calls_by m other.table) (knows_more m (meanings_of m) second other.table (in_whole m second other)) s by_second in
+    x.2 ∙ one_type m are.table other.table are.is_table other.is_table e scope x.0 y.0 x.1 y.1 ∙ sym y.2

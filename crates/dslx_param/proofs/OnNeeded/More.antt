@@ -19,7 +19,7 @@ use Rattle.dslx_core.specs.Machines.Machine.Callees.{CalleesByName, with_callee}
 
 -- what is lowered stays lowered where more calls resolve
 abbrev pub ExprsAreMono : Type 0
-ExprsAreMono = (e : Expr) (place : CoreScope) (c d : CalleesByName) → KnowsMore c d → LowerMono (lower_expression e (with_callee c place)) (lower_expression e (with_callee d place))
+ExprsAreMono = (e : Expr) (scope : CoreScope) (c d : CalleesByName) → KnowsMore c d → LowerMono (lower_expression e (with_callee c scope)) (lower_expression e (with_callee d scope))
 
 abbrev pub InstancesAreMono : Type 0
 InstancesAreMono = (m : Module) (items : Meanings) (before other : List CoreInstance) → KnowsMore (callee_in m items before) (callee_in m items other)

@@ -26,4 +26,4 @@ expression_comes mono m e body these more among r h =
     let s = mono e (scope_in (record { text = m; items = meanings_of m; table = these }) body) (callee_in m (meanings_of m) these) (callee_in m (meanings_of m) more)
     (knows_more m (meanings_of m) these more among) r h in
     let spot = spot_of (record { text = m; items = meanings_of m; table = more }) (lowering_alone e body) in
-    (record { place = spot.place; made = s.0 ∷ [] }, ap (λ o. and_then (makes o spot) (λ p. Some p)) s.1)
+    (record { scope = spot.scope; made = s.0 ∷ [] }, ap (λ o. and_then (makes o spot) (λ p. Some p)) s.1)

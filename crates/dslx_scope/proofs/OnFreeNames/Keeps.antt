@@ -81,7 +81,7 @@ patterns_keep : (ps : List Pattern) (run : FreeState) → all_found (s.patterns_
 patterns_keep [] run = refl
 patterns_keep (p ∷ ps) run = two_parts ((in_pattern p).mentions run.bound) (binders_mentions (map in_pattern ps) run.bound) run
 
--- the names of a task at a place where more is bound
+-- the names of a task in a scope where more is bound
 abbrev pub where_bound : List (List ℕ) → FreeState → List (List ℕ)
 where_bound names run = run.found ++ names_of_tasks run.todo (names ++ run.bound)
 

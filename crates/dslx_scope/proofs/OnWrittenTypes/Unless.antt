@@ -6,9 +6,9 @@ use Rattle.dslx_meaning.specs.Rules.Mentions.{Mention, value_names}
 use Rattle.dslx_core.specs.Lowering.CoreScopes.{CoreScope, slot_names, unless_local}
 use Rattle.dslx_scope.proofs.OnFreeNames.Named.{value_names_append}
 
--- some name of a value among these is bound at the place
+-- some name of a value among these is bound in the scope
 abbrev pub sees : CoreScope → List Mention → Bool
-sees place ms = list_any (λ name. is_in name (slot_names place.locals)) (value_names ms)
+sees scope ms = list_any (λ name. is_in name (slot_names scope.locals)) (value_names ms)
 
 any_of_both : {A : Type 0} (test : A → Bool) (xs ys : List A) → list_any test (xs ++ ys) ≡ list_any test xs || list_any test ys
 any_of_both test [] ys = refl
@@ -18,10 +18,10 @@ any_of_both test (x ∷ xs) ys = by (test x) (any_of_both test xs ys)
     by true e = refl
     by false e = e
 
-pub sees_both : (place : CoreScope) (ms ns : List Mention) → sees place (ms ++ ns) ≡ sees place ms || sees place ns
-sees_both place ms ns =
-    ap (list_any (λ name. is_in name (slot_names place.locals))) (value_names_append ms ns)
-    ∙ any_of_both (λ name. is_in name (slot_names place.locals)) (value_names ms) (value_names ns)
+pub sees_both : (scope : CoreScope) (ms ns : List Mention) → sees scope (ms ++ ns) ≡ sees scope ms || sees scope ns
+sees_both scope ms ns =
+    ap (list_any (λ name. is_in name (slot_names scope.locals))) (value_names_append ms ns)
+    ∙ any_of_both (λ name. is_in name (slot_names scope.locals)) (value_names ms) (value_names ns)
 
 -- ---- what is made of such values
 

@@ -108,11 +108,11 @@ mention_steps = record {
 -- ---- the types of which it holds
 
 abbrev IsLowered : TypeExpr → Type 0
-IsLowered t = (place : CoreScope) → lower_type_of_text t place ≡ unless_local (type_sees_a_local place t) (written_type t (globals_env place.known))
+IsLowered t = (scope : CoreScope) → lower_type_of_text t scope ≡ unless_local (type_sees_a_local scope t) (written_type t (globals_env scope.known))
 
 abbrev NodeIsLowered : TypeNode → Type 0
-NodeIsLowered n = (place : CoreScope) → (fold_type_node become becoming n).1 place
-    ≡ unless_local (sees place (fold_type_node mentions mention_steps n [])) (fold_type_node meanings meaning_steps n (globals_env place.known))
+NodeIsLowered n = (scope : CoreScope) → (fold_type_node become becoming n).1 scope
+    ≡ unless_local (sees scope (fold_type_node mentions mention_steps n [])) (fold_type_node meanings meaning_steps n (globals_env scope.known))
 
 -- of other parts nothing has to be known
 abbrev holding : Carriers
@@ -157,59 +157,59 @@ ToBeLowered = (x : TypeExpr) × IsLowered x
 -- ---- one level
 
 -- a size, which is beside itself
-size_is : (place : CoreScope) (e : Expr) → size_at place (fold_expr become becoming e).0 ≡ unless_local (sees_a_local place e) (size_of (denotation e) (globals_env place.known))
-size_is place e = ap (size_at place) (rebuilt_expr e)
+size_is : (scope : CoreScope) (e : Expr) → size_at scope (fold_expr become becoming e).0 ≡ unless_local (sees_a_local scope e) (size_of (denotation e) (globals_env scope.known))
+size_is scope e = ap (size_at scope) (rebuilt_expr e)
 
 abbrev types_of : List ToBeLowered → List TypeExpr
 types_of ts = map (λ (t : ToBeLowered). t.0) ts
 
-each_is_lowered : (place : CoreScope) (ts : List ToBeLowered) → all_some (map (λ (t : TypeExpr × TypeLowering). t.1 place) (map (fold_type_expr become becoming) (types_of ts)))
-    ≡ unless_local (sees place (all_mentions (map mentioned_in_type (types_of ts)) [])) (all_some (map (λ (t : TypeDen). t (globals_env place.known)) (map written_type (types_of ts))))
-each_is_lowered place [] = refl
-each_is_lowered place (t ∷ ts) =
-    ap (λ (o : Option DslxType). all_some (o ∷ map (λ (t : TypeExpr × TypeLowering). t.1 place) (map (fold_type_expr become becoming) (types_of ts)))) (t.1 place)
-    ∙ all_unless (type_sees_a_local place t.0) (sees place (all_mentions (map mentioned_in_type (types_of ts)) [])) (written_type t.0 (globals_env place.known))
-    (map (λ (t : TypeExpr × TypeLowering). t.1 place) (map (fold_type_expr become becoming) (types_of ts))) (map (λ (t : TypeDen). t (globals_env place.known)) (map written_type (types_of ts)))
-    (each_is_lowered place ts)
-    ∙ ap (λ (b : Bool). unless_local b (all_some (map (λ (t : TypeDen). t (globals_env place.known)) (map written_type (types_of (t ∷ ts))))))
-    (sym (sees_both place (mentioned_in_type t.0 []) (all_mentions (map mentioned_in_type (types_of ts)) [])))
+each_is_lowered : (scope : CoreScope) (ts : List ToBeLowered) → all_some (map (λ (t : TypeExpr × TypeLowering). t.1 scope) (map (fold_type_expr become becoming) (types_of ts)))
+    ≡ unless_local (sees scope (all_mentions (map mentioned_in_type (types_of ts)) [])) (all_some (map (λ (t : TypeDen). t (globals_env scope.known)) (map written_type (types_of ts))))
+each_is_lowered scope [] = refl
+each_is_lowered scope (t ∷ ts) =
+    ap (λ (o : Option DslxType). all_some (o ∷ map (λ (t : TypeExpr × TypeLowering). t.1 scope) (map (fold_type_expr become becoming) (types_of ts)))) (t.1 scope)
+    ∙ all_unless (type_sees_a_local scope t.0) (sees scope (all_mentions (map mentioned_in_type (types_of ts)) [])) (written_type t.0 (globals_env scope.known))
+    (map (λ (t : TypeExpr × TypeLowering). t.1 scope) (map (fold_type_expr become becoming) (types_of ts))) (map (λ (t : TypeDen). t (globals_env scope.known)) (map written_type (types_of ts)))
+    (each_is_lowered scope ts)
+    ∙ ap (λ (b : Bool). unless_local b (all_some (map (λ (t : TypeDen). t (globals_env scope.known)) (map written_type (types_of (t ∷ ts))))))
+    (sym (sees_both scope (mentioned_in_type t.0 []) (all_mentions (map mentioned_in_type (types_of ts)) [])))
 
 abbrev node_tree : TypeNodeLevel holding → TypeNodeLevel trees
 node_tree y = map_type_node holding trees tree_of y
 
-level_is_lowered : (y : TypeNodeLevel holding) (place : CoreScope) → lower_type (map_type_node trees become each_lowers_to (node_tree y)) place
-    ≡ unless_local (sees place (k.type_mentions (map_type_node trees mentions (folds mentions mention_steps) (node_tree y)) []))
-    (m.type_den (map_type_node trees meanings (folds meanings meaning_steps) (node_tree y)) (globals_env place.known))
-level_is_lowered (TypeNode-F.Bits s w) place = refl
-level_is_lowered (TypeNode-F.Wide s e) place =
-    ap (λ o. and_then o (λ w. Some (ty.Bits s w))) (size_is place e.0)
-    ∙ then_unless (sees_a_local place e.0) (size_of (denotation e.0) (globals_env place.known)) (λ w. Some (ty.Bits s w))
-level_is_lowered TypeNode-F.TypeNode::Bool place = refl
-level_is_lowered (TypeNode-F.TypeNode::Name name) place = refl
-level_is_lowered (TypeNode-F.TypeNode::Tuple ts) place =
-    ap (λ o. and_then o (λ us. Some (ty.Tuple us))) (each_is_lowered place ts)
-    ∙ then_unless (sees place (all_mentions (map mentioned_in_type (types_of ts)) [])) (all_some (map (λ (t : TypeDen). t (globals_env place.known)) (map written_type (types_of ts)))) (λ us. Some (ty.Tuple us))
-level_is_lowered (TypeNode-F.TypeNode::Array t e) place =
-    ap (λ o. with_both o (size_at place (fold_expr become becoming e.0).0) (λ u n. Some (ty.Array u n))) (t.1 place)
-    ∙ ap (λ o. with_both (unless_local (type_sees_a_local place t.0) (written_type t.0 (globals_env place.known))) o (λ u n. Some (ty.Array u n))) (size_is place e.0)
-    ∙ both_unless (type_sees_a_local place t.0) (sees_a_local place e.0) (written_type t.0 (globals_env place.known)) (size_of (denotation e.0) (globals_env place.known)) (λ u n. Some (ty.Array u n))
-    ∙ ap (λ (b : Bool). unless_local b (with_both (written_type t.0 (globals_env place.known)) (size_of (denotation e.0) (globals_env place.known)) (λ u n. Some (ty.Array u n))))
-    (sym (sees_both place (mentioned_in_type t.0 []) (mentioned e.0 [])))
+level_is_lowered : (y : TypeNodeLevel holding) (scope : CoreScope) → lower_type (map_type_node trees become each_lowers_to (node_tree y)) scope
+    ≡ unless_local (sees scope (k.type_mentions (map_type_node trees mentions (folds mentions mention_steps) (node_tree y)) []))
+    (m.type_den (map_type_node trees meanings (folds meanings meaning_steps) (node_tree y)) (globals_env scope.known))
+level_is_lowered (TypeNode-F.Bits s w) scope = refl
+level_is_lowered (TypeNode-F.Wide s e) scope =
+    ap (λ o. and_then o (λ w. Some (ty.Bits s w))) (size_is scope e.0)
+    ∙ then_unless (sees_a_local scope e.0) (size_of (denotation e.0) (globals_env scope.known)) (λ w. Some (ty.Bits s w))
+level_is_lowered TypeNode-F.TypeNode::Bool scope = refl
+level_is_lowered (TypeNode-F.TypeNode::Name name) scope = refl
+level_is_lowered (TypeNode-F.TypeNode::Tuple ts) scope =
+    ap (λ o. and_then o (λ us. Some (ty.Tuple us))) (each_is_lowered scope ts)
+    ∙ then_unless (sees scope (all_mentions (map mentioned_in_type (types_of ts)) [])) (all_some (map (λ (t : TypeDen). t (globals_env scope.known)) (map written_type (types_of ts)))) (λ us. Some (ty.Tuple us))
+level_is_lowered (TypeNode-F.TypeNode::Array t e) scope =
+    ap (λ o. with_both o (size_at scope (fold_expr become becoming e.0).0) (λ u n. Some (ty.Array u n))) (t.1 scope)
+    ∙ ap (λ o. with_both (unless_local (type_sees_a_local scope t.0) (written_type t.0 (globals_env scope.known))) o (λ u n. Some (ty.Array u n))) (size_is scope e.0)
+    ∙ both_unless (type_sees_a_local scope t.0) (sees_a_local scope e.0) (written_type t.0 (globals_env scope.known)) (size_of (denotation e.0) (globals_env scope.known)) (λ u n. Some (ty.Array u n))
+    ∙ ap (λ (b : Bool). unless_local b (with_both (written_type t.0 (globals_env scope.known)) (size_of (denotation e.0) (globals_env scope.known)) (λ u n. Some (ty.Array u n))))
+    (sym (sees_both scope (mentioned_in_type t.0 []) (mentioned e.0 [])))
 
 step_type_node : (x : TypeNodeLevel trees) (y : TypeNodeLevel holding) → node_tree y ≡ x → NodeIsLowered (roll-TypeNode x)
-step_type_node x y is = subst (λ z. NodeIsLowered (roll-TypeNode z)) is (λ place.
-    ap (λ p. p.1 place) (fold_type_node-roll become becoming (node_tree y))
-    ∙ level_is_lowered y place
-    ∙ (λ i. unless_local (sees place (sym (fold_type_node-roll mentions mention_steps (node_tree y)) i [])) (sym (fold_type_node-roll meanings meaning_steps (node_tree y)) i (globals_env place.known))))
+step_type_node x y is = subst (λ z. NodeIsLowered (roll-TypeNode z)) is (λ scope.
+    ap (λ p. p.1 scope) (fold_type_node-roll become becoming (node_tree y))
+    ∙ level_is_lowered y scope
+    ∙ (λ i. unless_local (sees scope (sym (fold_type_node-roll mentions mention_steps (node_tree y)) i [])) (sym (fold_type_node-roll meanings meaning_steps (node_tree y)) i (globals_env scope.known))))
 
 abbrev type_tree : TypeExprLevel holding → TypeExprLevel trees
 type_tree y = map_type_expr holding trees tree_of y
 
 step_type_expr : (x : TypeExprLevel trees) (y : TypeExprLevel holding) → type_tree y ≡ x → IsLowered (roll-TypeExpr x)
-step_type_expr x y is = subst (λ z. IsLowered (roll-TypeExpr z)) is (λ place.
-    ap (λ p. p.1 place) (fold_type_expr-roll become becoming (type_tree y))
-    ∙ y.node.1 place
-    ∙ (λ i. unless_local (sees place (sym (fold_type_expr-roll mentions mention_steps (type_tree y)) i [])) (sym (fold_type_expr-roll meanings meaning_steps (type_tree y)) i (globals_env place.known))))
+step_type_expr x y is = subst (λ z. IsLowered (roll-TypeExpr z)) is (λ scope.
+    ap (λ p. p.1 scope) (fold_type_expr-roll become becoming (type_tree y))
+    ∙ y.node.1 scope
+    ∙ (λ i. unless_local (sees scope (sym (fold_type_expr-roll mentions mention_steps (type_tree y)) i [])) (sym (fold_type_expr-roll meanings meaning_steps (type_tree y)) i (globals_env scope.known))))
 
 pub type_is_lowered : (t : TypeExpr) → IsLowered t
 type_is_lowered = ind-TypeExpr (λ x. Unit {0}) (λ x. Unit {0}) (λ x. Unit {0}) NodeIsLowered (λ x. Unit {0}) (λ x. Unit {0}) (λ x. Unit {0}) (λ x. Unit {0}) (λ x. Unit {0}) (λ x. Unit {0}) (λ x. Unit {0}) (λ x. Unit {0}) (λ x. Unit {0}) IsLowered

@@ -8,4 +8,4 @@ use Rattle.dslx_core.specs.Lowering.CoreScopes.{CoreScope, slot_names}
 
 -- some name that is free in a size of the type is bound around it
 abbrev pub type_sees_a_local : CoreScope → TypeExpr → Bool
-type_sees_a_local place t = list_any (λ name. is_in name (slot_names place.locals)) (value_names (mentioned_in_type t []))
+type_sees_a_local scope t = list_any (λ name. is_in name (slot_names scope.locals)) (value_names (mentioned_in_type t []))

@@ -14,7 +14,7 @@ use Rattle.dslx_scope_names.specs.declared.values.context.ScopeEnv.{ScopeEnv}
 
 -- what the law of written types says
 abbrev pub AreLowered : Type 0
-AreLowered = (t : TypeExpr) (place : CoreScope) → lower_type_of_text t place ≡ unless_local (type_sees_a_local place t) (written_type t (globals_env place.known))
+AreLowered = (t : TypeExpr) (scope : CoreScope) → lower_type_of_text t scope ≡ unless_local (type_sees_a_local scope t) (written_type t (globals_env scope.known))
 
 pub means_the_same : (t : TypeExpr) (s : ScopeEnv) (bound : List Given) (sees : Bool) → AreLowered → bound ≡ reverse (map given s.parametric_args.now) → sees ≡ type_sees_a_local (scope_seen s) t → sees ≡ false
     → (callee : CalleesByName) (count : ℕ) → written_type t (record { items = meanings_of s.text.now; bound = bound }) ≡ lower_type_of_text t (scope_with callee count s)

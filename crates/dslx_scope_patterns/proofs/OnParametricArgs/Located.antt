@@ -1,4 +1,4 @@
--- Arguments at their place, one after the other.
+-- Arguments in their scope, one after the other.
 use Rattle.std.proofs.Common.{◌≡◌, ◌∙◌, ◌<◌, ◌≤◌, ◌+◌, ℕ, suc, Bool, true, false, List, [], ◌∷◌, ◌++◌, Option, Some, None, drop, length, map, get_or, refl, sym, ap, arith, if◌then◌else◌}
 use Rattle.std.specs.Option.{option_map}
 use Rattle.std.proofs.Math.ListN.{drop_of_length-le}
@@ -14,7 +14,7 @@ use Rattle.dslx_core.specs.Lowering.CoreScopes.{BoundSlot, BodyEnv, CoreScope}
 use Rattle.dslx_core.specs.Lowering.Functions.{argument_types, arguments_in_scope, outer_scope}
 use Rattle.dslx_core.specs.Lowering.Trees.{lower_type_of_text}
 use Rattle.dslx_core.specs.Machines.Machine.Callees.{CalleesByName}
-use Rattle.dslx_scope_patterns.specs.Numbers.Placed.{arguments_of, arguments_shown, globals_with, locals_in_scope}
+use Rattle.dslx_scope_patterns.specs.Numbers.InScope.{arguments_of, arguments_shown, globals_with, locals_in_scope}
 use Rattle.dslx_scope_patterns.specs.declared.parametric_args.arguments.Arguments.{Arguments}
 use Rattle.dslx_scope_patterns.proofs.Lemmas.Numbers.InOrder.{behind, behind_all, behind_more, behind_none}
 
@@ -82,26 +82,26 @@ arguments_with ts n locals = record { types = ts; locals = locals; count = n }
 
 shown_by : (callee : CalleesByName) (m : Module) (parametric_args : List Binding) (ts : List DslxType) (n : ℕ) (l : Option (List BoundSlot))
     → arguments_shown callee m parametric_args (option_map (arguments_with ts n) l)
-    ≡ and_then (option_map (λ (ls : List BoundSlot). record { known = globals_with callee m parametric_args; locals = ls; count = n }) l) (λ (place : CoreScope). Some (ts, place))
+    ≡ and_then (option_map (λ (ls : List BoundSlot). record { known = globals_with callee m parametric_args; locals = ls; count = n }) l) (λ (scope : CoreScope). Some (ts, scope))
 shown_by callee m parametric_args ts n None = refl
 shown_by callee m parametric_args ts n (Some ls) = refl
 
 -- the types are there
-pub are_placed : (callee : CalleesByName) (m : Module) (parametric_args : List Binding) (fs : List Field) (ts : List DslxType) (found : Option Arguments) → Some ts ≡ argument_types (globals_with callee m parametric_args) fs
+pub are_in_scope : (callee : CalleesByName) (m : Module) (parametric_args : List Binding) (fs : List Field) (ts : List DslxType) (found : Option Arguments) → Some ts ≡ argument_types (globals_with callee m parametric_args) fs
     → found ≡ option_map (arguments_with ts (length fs)) (locals_in_scope (meanings_of m) fs ts [] 0) → arguments_shown callee m parametric_args found ≡ arguments_of (globals_with callee m parametric_args) fs
-are_placed callee m parametric_args fs ts found types is =
+are_in_scope callee m parametric_args fs ts found types is =
     let known : BodyEnv = globals_with callee m parametric_args in
     let count : length fs ≡ length fs + 0 = omega arith in
     ap (arguments_shown callee m parametric_args) is ∙ shown_by callee m parametric_args ts (length fs) (locals_in_scope (meanings_of m) fs ts [] 0)
-    ∙ ap (λ (o : Option CoreScope). and_then o (λ (place : CoreScope). Some (ts, place))) (sym (located known fs ts [] 0 (length fs) count))
-    ∙ ap (λ (o : Option (List DslxType)). and_then o (λ (us : List DslxType). and_then (arguments_in_scope fs us (outer_scope known)) (λ (place : CoreScope). Some (us, place)))) types
+    ∙ ap (λ (o : Option CoreScope). and_then o (λ (scope : CoreScope). Some (ts, scope))) (sym (located known fs ts [] 0 (length fs) count))
+    ∙ ap (λ (o : Option (List DslxType)). and_then o (λ (us : List DslxType). and_then (arguments_in_scope fs us (outer_scope known)) (λ (scope : CoreScope). Some (us, scope)))) types
 
 -- a type isn't there
-pub are_not_placed : (callee : CalleesByName) (m : Module) (parametric_args : List Binding) (fs : List Field) → None ≡ argument_types (globals_with callee m parametric_args) fs → None ≡ arguments_of (globals_with callee m parametric_args) fs
-are_not_placed callee m parametric_args fs none =
-    ap (λ (o : Option (List DslxType)). and_then o (λ (us : List DslxType). and_then (arguments_in_scope fs us (outer_scope (globals_with callee m parametric_args))) (λ (place : CoreScope). Some (us, place)))) none
+pub are_not_in_scope : (callee : CalleesByName) (m : Module) (parametric_args : List Binding) (fs : List Field) → None ≡ argument_types (globals_with callee m parametric_args) fs → None ≡ arguments_of (globals_with callee m parametric_args) fs
+are_not_in_scope callee m parametric_args fs none =
+    ap (λ (o : Option (List DslxType)). and_then o (λ (us : List DslxType). and_then (arguments_in_scope fs us (outer_scope (globals_with callee m parametric_args))) (λ (scope : CoreScope). Some (us, scope)))) none
 
--- the types at a place where nothing is bound
+-- the types in a scope where nothing is bound
 pub types_there : (known : BodyEnv) (locals : List BoundSlot) (fs : List Field) → locals ≡ []
     → all_some (map (λ (f : Field). lower_type_of_text f.ty (record { known = known; locals = locals; count = 0 })) fs) ≡ argument_types known fs
 types_there known locals fs none = ap (λ (ls : List BoundSlot). all_some (map (λ (f : Field). lower_type_of_text f.ty (record { known = known; locals = ls; count = 0 })) fs)) none

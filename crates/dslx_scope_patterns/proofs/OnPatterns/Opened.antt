@@ -43,31 +43,31 @@ opened p = ap (λ q. q.1) (out_pattern p) ∙ ap (λ q. q.1) (out_shape (out-Pat
 
 -- ---- shapes
 
-number_layer : (x : NumberLevel trees) (place : CoreScope)
-    → number_meaning (map_number trees become each_lowers_to x) place ≡ and_then (and_then x.ty (λ t. lower_type_of_text t place)) (λ t. number_value t (record { is_negative = x.is_negative; value = x.value }))
-number_layer x place = by x.ty
+number_layer : (x : NumberLevel trees) (scope : CoreScope)
+    → number_meaning (map_number trees become each_lowers_to x) scope ≡ and_then (and_then x.ty (λ t. lower_type_of_text t scope)) (λ t. number_value t (record { is_negative = x.is_negative; value = x.value }))
+number_layer x scope = by x.ty
   where
-    by : (o : Option TypeExpr) → number_meaning (map_number trees become each_lowers_to (record { ty = o; is_negative = x.is_negative; value = x.value })) place
-        ≡ and_then (and_then o (λ t. lower_type_of_text t place)) (λ t. number_value t (record { is_negative = x.is_negative; value = x.value }))
+    by : (o : Option TypeExpr) → number_meaning (map_number trees become each_lowers_to (record { ty = o; is_negative = x.is_negative; value = x.value })) scope
+        ≡ and_then (and_then o (λ t. lower_type_of_text t scope)) (λ t. number_value t (record { is_negative = x.is_negative; value = x.value }))
     by None = refl
     by (Some t) = refl
 
-number_opened : (n : Number) (place : CoreScope) → (fold_number become becoming n).1 place ≡ number_at place n
-number_opened n place = ap (λ p. p.1 place) (out_number n) ∙ number_layer (out-Number n) place
+number_opened : (n : Number) (scope : CoreScope) → (fold_number become becoming n).1 scope ≡ number_at scope n
+number_opened n scope = ap (λ p. p.1 scope) (out_number n) ∙ number_layer (out-Number n) scope
 
 parts_opened : (ps : List Pattern) → map (λ p. p.1) (map (fold_pattern become becoming) ps) ≡ map lower_pattern_of_text ps
 parts_opened ps = map-map (λ p. p.1) (fold_pattern become becoming) ps
 
-shape_opened : (x : PatternLayer) (outer place : CoreScope) (t : DslxType) → shape_at (map_shape trees become each_lowers_to x) outer place t ≡ top_shape x outer place t
-shape_opened Shape-F.Wild outer place t = refl
-shape_opened (Shape-F.Shape::Bool b) outer place t = refl
-shape_opened (Shape-F.Shape::Number n) outer place t = ap (λ v. value_shape v place t) (number_opened n outer)
-shape_opened (Shape-F.Shape::Name name) outer place t = refl
-shape_opened (Shape-F.Shape::Member e a) outer place t = refl
-shape_opened (Shape-F.Shape::Tuple ps) outer place t = ap (λ (ls : List PatternLowering). tuple_shape ls outer place (out-DslxType t)) (parts_opened ps)
+shape_opened : (x : PatternLayer) (outer scope : CoreScope) (t : DslxType) → shape_at (map_shape trees become each_lowers_to x) outer scope t ≡ top_shape x outer scope t
+shape_opened Shape-F.Wild outer scope t = refl
+shape_opened (Shape-F.Shape::Bool b) outer scope t = refl
+shape_opened (Shape-F.Shape::Number n) outer scope t = ap (λ v. value_shape v scope t) (number_opened n outer)
+shape_opened (Shape-F.Shape::Name name) outer scope t = refl
+shape_opened (Shape-F.Shape::Member e a) outer scope t = refl
+shape_opened (Shape-F.Shape::Tuple ps) outer scope t = ap (λ (ls : List PatternLowering). tuple_shape ls outer scope (out-DslxType t)) (parts_opened ps)
 
-pub by_top : (p : Pattern) (outer place : CoreScope) (t : DslxType) → (lower_pattern_of_text p).lower outer place t ≡ top_shape (shape_of p) outer place t
-by_top p outer place t = ap (λ (l : PatternLowering). l.lower outer place t) (opened p) ∙ shape_opened (shape_of p) outer place t
+pub by_top : (p : Pattern) (outer scope : CoreScope) (t : DslxType) → (lower_pattern_of_text p).lower outer scope t ≡ top_shape (shape_of p) outer scope t
+by_top p outer scope t = ap (λ (l : PatternLowering). l.lower outer scope t) (opened p) ∙ shape_opened (shape_of p) outer scope t
 
 -- ---- names
 

@@ -17,19 +17,19 @@ use Rattle.dslx_scope_patterns.specs.declared.patterns.there.Shaped.{Shaped}
 
 -- where these names are bound, too, the last one first, and so many values
 abbrev pub behind : List BoundSlot → ℕ → CoreScope → CoreScope
-behind names count place = record { known = place.known; locals = names ++ place.locals; count = count }
+behind names count scope = record { known = scope.known; locals = names ++ scope.locals; count = count }
 
 -- a shape, where there is one, and the scope behind it
 abbrev pub shaped_to : Option Shape → CoreScope → Option LoweredShape
-shaped_to o place = and_then o (λ s. shaped s place)
+shaped_to o scope = and_then o (λ s. shaped s scope)
 
 -- shapes of parts, where they are there
 abbrev pub parts_to : Option (List Shape) → CoreScope → Option LoweredShapes
-parts_to o place = and_then o (λ shapes. Some (record { shapes = shapes; place = place }))
+parts_to o scope = and_then o (λ shapes. Some (record { shapes = shapes; scope = scope }))
 
 -- what a pattern is lowered to in a scope
 abbrev pub shown_behind : Option Shaped → CoreScope → Option LoweredShape
-shown_behind o place = and_then o (λ s. shaped s.shape (behind s.fresh s.count place))
+shown_behind o scope = and_then o (λ s. shaped s.shape (behind s.fresh s.count scope))
 
 -- ---- within a pattern
 
@@ -57,4 +57,4 @@ shown_bound o callee k locals = and_then o (λ s. shaped s.shape (body_scope cal
 
 -- the same of the two patterns of a turn
 abbrev pub shown_turn : Option BoundTurn → CalleesByName → BodyScope → List BoundSlot → Option (Shape × LoweredShape)
-shown_turn o callee k locals = and_then o (λ t. Some (t.index, record { shape = t.accumulator; place = body_scope callee k locals t.count }))
+shown_turn o callee k locals = and_then o (λ t. Some (t.index, record { shape = t.accumulator; scope = body_scope callee k locals t.count }))

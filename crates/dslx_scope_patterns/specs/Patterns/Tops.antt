@@ -15,12 +15,12 @@ use Rattle.dslx_core.specs.Lowering.Steps.{lower_pattern_of_text}
 use Rattle.dslx_core.specs.Machines.Machine.Steps.{number_at}
 
 abbrev pub top_shape : PatternLayer → CoreScope → CoreScope → DslxType → Option LoweredShape
-top_shape Shape-F.Wild outer place t = shaped shape.Wild place
-top_shape (Shape-F.Shape::Bool b) outer place t = value_shape (Some (bool_value b)) place t
-top_shape (Shape-F.Shape::Number n) outer place t = value_shape (number_at outer n) place t
-top_shape (Shape-F.Shape::Name name) outer place t = name_shape name place t
-top_shape (Shape-F.Shape::Member e a) outer place t = value_shape (place.known.items.member e.name a.name) place t
-top_shape (Shape-F.Shape::Tuple ps) outer place t = tuple_shape (map lower_pattern_of_text ps) outer place (out-DslxType t)
+top_shape Shape-F.Wild outer scope t = shaped shape.Wild scope
+top_shape (Shape-F.Shape::Bool b) outer scope t = value_shape (Some (bool_value b)) scope t
+top_shape (Shape-F.Shape::Number n) outer scope t = value_shape (number_at outer n) scope t
+top_shape (Shape-F.Shape::Name name) outer scope t = name_shape name scope t
+top_shape (Shape-F.Shape::Member e a) outer scope t = value_shape (scope.known.items.member e.name a.name) scope t
+top_shape (Shape-F.Shape::Tuple ps) outer scope t = tuple_shape (map lower_pattern_of_text ps) outer scope (out-DslxType t)
 
 abbrev pub top_names : PatternLayer → List (List ℕ)
 top_names (Shape-F.Shape::Name name) = name ∷ []

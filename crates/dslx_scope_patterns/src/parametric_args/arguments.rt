@@ -7,7 +7,7 @@ ghost use Rattle.dslx_meaning.specs.Lists.{all_some};
 ghost use Rattle.dslx_core.specs.Lowering.Trees.{lower_type_of_text};
 ghost use Rattle.dslx_core.specs.Machines.Machine.Callees.{CalleesByName};
 ghost use Rattle.dslx_scope_names.specs.Values.Seen.{scope_with};
-ghost use Rattle.dslx_scope_patterns.specs.Numbers.Placed.{arguments_of, arguments_shown, globals_with, locals_in_scope};
+ghost use Rattle.dslx_scope_patterns.specs.Numbers.InScope.{arguments_of, arguments_shown, globals_with, locals_in_scope};
 
 use crate::parametric_args::constant::is_constant;
 use dslx_core::lowering::BoundSlot;

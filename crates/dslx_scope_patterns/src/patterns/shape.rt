@@ -60,7 +60,7 @@ fn form_shape<'a>(
 }
 
 fn bool_shape(alloc: Global, holds: bool, ty: &DslxType) -> Result<Option<Shape>, AllocError>
-    ensures { IfOk result (λ s. (place : CoreScope) → the_value_shape (Some (the_bool holds)) place ty.now ≡ shaped_to s place) }
+    ensures { IfOk result (λ s. (scope : CoreScope) → the_value_shape (Some (the_bool holds)) scope ty.now ≡ shaped_to s scope) }
 {
     value_shape(alloc, Some(bool_value(holds)), ty)
 }
@@ -72,7 +72,7 @@ fn number_shape<'a>(
     number: &'a Number,
     ty: &DslxType,
 ) -> Result<Option<Shape>, AllocError>
-    ensures { IfOk result (λ s. (place : CoreScope) → the_value_shape (number_at (outer_scope outer.entry) number.now) place ty.now ≡ shaped_to s place) }
+    ensures { IfOk result (λ s. (scope : CoreScope) → the_value_shape (number_at (outer_scope outer.entry) number.now) scope ty.now ≡ shaped_to s scope) }
 {
     let value = number_there(alloc, outer.context, number)?;
     value_shape(alloc, value, ty)
@@ -85,7 +85,7 @@ fn member_shape<'a>(
     member: &Name,
     ty: &DslxType,
 ) -> Result<Option<Shape>, AllocError>
-    ensures { IfOk result (λ s. (place : CoreScope) → the_value_shape ((outer_scope outer.entry).known.items.member of.now member.now) place ty.now ≡ shaped_to s place) }
+    ensures { IfOk result (λ s. (scope : CoreScope) → the_value_shape ((outer_scope outer.entry).known.items.member of.now member.now) scope ty.now ≡ shaped_to s scope) }
 {
     let value = member_named(alloc, outer.context.text, of, member)?;
     value_shape(alloc, value, ty)

@@ -81,12 +81,12 @@ with_ends target k ends = where_true (length ends == length target.config.ends) 
 abbrev with_parametric_args : List Held → List ProcInstance → Spawn → Proc → List DslxValue → Option Child
 with_parametric_args held procs s target parametric_args = with_both (proc_instance_in s.target.name parametric_args 0 procs) (end_numbers held s.ends) (with_ends target)
 
-child_there : (m : Module) (place : CoreScope) (held : List Held) (procs : List ProcInstance) (s : Spawn) (target : Proc) (parametric_args : List DslxValue) → as_proc (item_named s.target.name m.items) ≡ Some target
-    → lower_spawn_parametrics place target s.arguments ≡ Some parametric_args → (length s.ends == length target.config.ends) ≡ true → ParametricArgsThere held s.ends → (k : ℕ) → proc_instance_in s.target.name parametric_args 0 procs ≡ Some k
-    → (c : Child) × (lower_child m place held procs s ≡ Some c)
-child_there m place held procs s target parametric_args is given many ends k found = (
+child_there : (m : Module) (scope : CoreScope) (held : List Held) (procs : List ProcInstance) (s : Spawn) (target : Proc) (parametric_args : List DslxValue) → as_proc (item_named s.target.name m.items) ≡ Some target
+    → lower_spawn_parametrics scope target s.arguments ≡ Some parametric_args → (length s.ends == length target.config.ends) ≡ true → ParametricArgsThere held s.ends → (k : ℕ) → proc_instance_in s.target.name parametric_args 0 procs ≡ Some k
+    → (c : Child) × (lower_child m scope held procs s ≡ Some c)
+child_there m scope held procs s target parametric_args is given many ends k found = (
   record { instance = k; ends = ends.parametric_args },
-  ap (λ o. and_then o (λ t. and_then (lower_spawn_parametrics place t s.arguments) (with_parametric_args held procs s t))) is
+  ap (λ o. and_then o (λ t. and_then (lower_spawn_parametrics scope t s.arguments) (with_parametric_args held procs s t))) is
       ∙ ap (λ o. and_then o (with_parametric_args held procs s target)) given
       ∙ (λ i. with_both (found i) (ends.are i) (with_ends target))
       ∙ ap (λ b. where_true b (Some (record { instance = k; ends = ends.parametric_args }))) (ap (λ n. n == length target.config.ends) ends.many ∙ many),
@@ -106,8 +106,8 @@ module _ (m : Module) (top : Option (List ℕ)) (s : IsAccepted m top) (procs : 
     abbrev env : Env
     env = item_env known (parametric_args_bound [] p.parametrics parametric_args)
 
-    abbrev place : CoreScope
-    place = config_scope known.items p parametric_args
+    abbrev scope : CoreScope
+    scope = config_scope known.items p parametric_args
 
     abbrev held : List Held
     held = numbered_ends p
@@ -121,9 +121,9 @@ module _ (m : Module) (top : Option (List ℕ)) (s : IsAccepted m top) (procs : 
     -- what a `config` makes and spawns becomes something
     record StatementsLower (ms : List ConfigStatement) : Type 0 where
       made : List MadeChannel
-      made_is : lower_made place ms ≡ Some made
-      spawns : EachSpawn (SpawnsReached m known.items top place) ms
-      children : (instances : List ProcInstance) → EachSpawn (HasItsInstance m known.items place instances) ms → (cs : List Child) × (lower_children m place held instances ms ≡ Some cs)
+      made_is : lower_made scope ms ≡ Some made
+      spawns : EachSpawn (SpawnsReached m known.items top scope) ms
+      children : (instances : List ProcInstance) → EachSpawn (HasItsInstance m known.items scope instances) ms → (cs : List Child) × (lower_children m scope held instances ms ≡ Some cs)
 
     -- a channel reaches sound instances
     channel_sound : (made : Made) (c : Channel) → Within m (most m top s) (config_statement_mentions (config_statement.Channel c) bound) → Listed m top s (channel_found context made c).reached → list_all known.is_sound (channel_found context made c).reached ≡ true
@@ -150,7 +150,7 @@ module _ (m : Module) (top : Option (List ℕ)) (s : IsAccepted m top) (procs : 
         let rest = config_statements_become next ms named v.1 a.1 b.1 in
         record {
           made = first.0 ∷ rest.made;
-          made_is = put_both (lower_channel place c) (lower_made place ms) first.0 rest.made first.1 rest.made_is;
+          made_is = put_both (lower_channel scope c) (lower_made scope ms) first.0 rest.made first.1 rest.made_is;
           spawns = rest.spawns;
           children = rest.children;
         }
@@ -181,9 +181,9 @@ module _ (m : Module) (top : Option (List ℕ)) (s : IsAccepted m top) (procs : 
           );
           children = λ instances k.
               let found = k.0 t.target t.parametric_args t.is gives t.own in
-              let first = child_there m place held instances sp t.target t.parametric_args t.is gives t.many ends found.0 found.1 in
+              let first = child_there m scope held instances sp t.target t.parametric_args t.is gives t.many ends found.0 found.1 in
               let others = rest.children instances k.1 in
-              (first.0 ∷ others.0, put_both (lower_child m place held instances sp) (lower_children m place held instances ms) first.0 others.0 first.1 others.1);
+              (first.0 ∷ others.0, put_both (lower_child m scope held instances sp) (lower_children m scope held instances ms) first.0 others.0 first.1 others.1);
         }
 
     pub config_lowers_to : ConfigLowers m known.items top p parametric_args

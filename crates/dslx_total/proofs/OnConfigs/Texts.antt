@@ -41,7 +41,7 @@ use Rattle.dslx_scope.specs.WrittenTypes.Seen.{type_sees_a_local}
 
 -- written types become what they mean, unless they see a local
 abbrev pub TypesAreWritten : Type 0
-TypesAreWritten = (t : TypeExpr) (place : CoreScope) → lower_type_of_text t place ≡ unless_local (type_sees_a_local place t) (written_type t (globals_env place.known))
+TypesAreWritten = (t : TypeExpr) (scope : CoreScope) → lower_type_of_text t scope ≡ unless_local (type_sees_a_local scope t) (written_type t (globals_env scope.known))
 
 -- none of these is bound where nothing is
 none_bound : (names : List (List ℕ)) → list_any (λ name. is_in name []) names ≡ false
@@ -76,20 +76,20 @@ module _ (known : GlobalEnv) (p : Proc) (parametric_args : List DslxValue) (made
   abbrev env : Env
   env = item_env known (parametric_args_bound [] p.parametrics parametric_args)
 
-  abbrev place : CoreScope
-  place = config_scope known.items p parametric_args
+  abbrev scope : CoreScope
+  scope = config_scope known.items p parametric_args
 
   -- ---- types
 
   pub record TypeThere (t : TypeExpr) : Type 0 where
     pub ty : DslxType
-    pub is : lower_type_of_text t place ≡ Some ty
+    pub is : lower_type_of_text t scope ≡ Some ty
 
   pub type_there : TypesAreWritten → (t : TypeExpr) → IsWellTypedPart known (typing_of_type context t) → TypeThere t
   type_there written t well_typed =
       let stands = type_has_den t in
       let k = stands.known context env h well_typed in
-      record { ty = k.0; is = written t place ∙ ap (λ b. unless_local b (written_type t env)) (none_bound (value_names (mentioned_in_type t []))) ∙ (stands.means context env h k.0 k.1).0 }
+      record { ty = k.0; is = written t scope ∙ ap (λ b. unless_local b (written_type t env)) (none_bound (value_names (mentioned_in_type t []))) ∙ (stands.means context env h k.0 k.1).0 }
 
   -- the type of a channel's words
   pub word_there : TypesAreWritten → (t : TypeExpr) → (channel_type context t).faults ≡ [] → list_all known.is_sound (channel_type context t).reached ≡ true → TypeThere t
@@ -101,20 +101,20 @@ module _ (known : GlobalEnv) (p : Proc) (parametric_args : List DslxValue) (made
 
   -- ---- values
 
-  value_there : (a : Arg) → constant_at place (out-Arg a).value ≡ (arg_denotation a).value env
+  value_there : (a : Arg) → constant_at scope (out-Arg a).value ≡ (arg_denotation a).value env
   value_there a = ap (λ b. unless_local b (value_of (out-Arg a).value env)) (none_bound (free_names (out-Arg a).value)) ∙ ap (λ (x : ExprDen). x.value env) (sym (arg_means a))
 
-  values_there : (as' : List Arg) → map (λ (a : Arg). constant_at place (out-Arg a).value) as' ≡ map (λ (e : ExprDen). e.value env) (map arg_denotation as')
+  values_there : (as' : List Arg) → map (λ (a : Arg). constant_at scope (out-Arg a).value) as' ≡ map (λ (e : ExprDen). e.value env) (map arg_denotation as')
   values_there [] = refl
   values_there (a ∷ as') = λ i. value_there a i ∷ values_there as' i
 
   -- the parametric arguments that a spawn gives
-  pub given_there : (target : Proc) (as' : List Arg) → lower_spawn_parametrics place target as' ≡ spawn_parametric_args known.items env target as'
+  pub given_there : (target : Proc) (as' : List Arg) → lower_spawn_parametrics scope target as' ≡ spawn_parametric_args known.items env target as'
   given_there target as' = ap (λ os. and_then (all_some os) (all_parametric_args known.items [] [] target.parametrics)) (values_there as')
 
   -- ---- channels
 
-  depth_there : (o : Option Arg) → (depth_found context o).faults ≡ [] → list_all known.is_sound (depth_found context o).reached ≡ true → (d : ℕ) × (lower_depth place o ≡ Some d)
+  depth_there : (o : Option Arg) → (depth_found context o).faults ≡ [] → list_all known.is_sound (depth_found context o).reached ≡ true → (d : ℕ) × (lower_depth scope o ≡ Some d)
   depth_there None f r = (1, refl)
   depth_there (Some a) f r =
       let e = (arg_pair a).1 in
@@ -124,14 +124,14 @@ module _ (known : GlobalEnv) (p : Proc) (parametric_args : List DslxValue) (made
       let g = argument_gives a in
       let c = count_has context env e (arg_denotation a) g h (record { faults = q.0; reached = r }) in
       let few = few_bits c.0 (within_limit to c.0 (ap (depth_limit to) (sym c.1) ∙ q.1)) in
-      let size : size_at place (out-Arg a).value ≡ Some c.0 =
+      let size : size_at scope (out-Arg a).value ≡ Some c.0 =
       ap (λ b. unless_local b (size_of (denotation (out-Arg a).value) env)) (none_bound (free_names (out-Arg a).value))
       ∙ ap (λ (x : ExprDen). size_of x env) (sym (arg_means a) ∙ sym g.is)
       ∙ size_is_denoted context env.bound e c.0 h.place c.1 in
       (c.0, ap (λ o. and_then o (λ d. where_true (nat_lt d (2 ^ 32)) (Some d))) size ∙ ap (λ b. where_true b (Some c.0)) few)
 
   pub channel_there : TypesAreWritten → (c : Channel) → (channel_found (proc_type_env known p parametric_args) made c).faults ≡ [] → list_all known.is_sound (channel_found (proc_type_env known p parametric_args) made c).reached ≡ true
-      → (x : MadeChannel) × (lower_channel place c ≡ Some x)
+      → (x : MadeChannel) × (lower_channel scope c ≡ Some x)
   channel_there written c f r =
       let word = channel_type context c.word in
       let depth = depth_found context c.depth in

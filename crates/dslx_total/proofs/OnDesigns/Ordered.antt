@@ -86,27 +86,27 @@ module _ (m : Module) (top : Option (List ℕ)) (functions : List CoreInstance) 
   -- ---- one instance
 
   -- the instance that a spawn comes to
-  spawned_there : (k : ℕ) (table : List ProcInstance) → HoldsShorter k table → (place : CoreScope) (s : Spawn) → Within m k (mention AsProc s.target.name) → SpawnsReached m items top place s → HasItsInstance m items place table s
-  spawned_there k table holds place s w h target parametric_args is given own =
+  spawned_there : (k : ℕ) (table : List ProcInstance) → HoldsShorter k table → (scope : CoreScope) (s : Spawn) → Within m k (mention AsProc s.target.name) → SpawnsReached m items top scope s → HasItsInstance m items scope table s
+  spawned_there k table holds scope s w h target parametric_args is given own =
       let named : item_named s.target.name m.items ≡ Some (d.Proc h.target) = proc_is (item_named s.target.name m.items) h.target h.is in
       let name : h.target.name.name ≡ s.target.name = item_so_named m.items s.target.name (d.Proc h.target) named in
       let one = same_some h.target target (sym h.is ∙ is) in
-      let same = same_some h.parametric_args parametric_args (sym h.given ∙ ((λ t. lower_spawn_parametrics place (one t) s.arguments) ∙ given)) in
+      let same = same_some h.parametric_args parametric_args (sym h.given ∙ ((λ t. lower_spawn_parametrics scope (one t) s.arguments) ∙ given)) in
       let i : Instance = record { name = s.target.name; parametric_args = h.parametric_args } in
       let among = one_of_these i all (subst (λ n. is_reached (record { name = n; parametric_args = h.parametric_args }) all ≡ true) name h.checked.checked) in
       let there = holds i among (λ t. is_of_use AsProc (named t) && all_own_pass items.type_named h.parametric_args h.checked.own t) (mentioned_proc m k s.target.name h.target named w) in
       found_in s.target.name parametric_args 0 table (subst (λ (vs : List DslxValue). stands table s.target.name vs ≡ true) same there)
 
-  each_there : (k : ℕ) (table : List ProcInstance) → HoldsShorter k table → (place : CoreScope) (bound : List (List ℕ)) (ms : List ConfigStatement) → Within m k (flat_map (λ (x : ConfigStatement). config_statement_mentions x bound) ms) → EachSpawn (SpawnsReached m items top place) ms
-      → EachSpawn (HasItsInstance m items place table) ms
-  each_there k table holds place bound [] w h = tt
-  each_there k table holds place bound (config_statement.Channel c ∷ ms) w h =
+  each_there : (k : ℕ) (table : List ProcInstance) → HoldsShorter k table → (scope : CoreScope) (bound : List (List ℕ)) (ms : List ConfigStatement) → Within m k (flat_map (λ (x : ConfigStatement). config_statement_mentions x bound) ms) → EachSpawn (SpawnsReached m items top scope) ms
+      → EachSpawn (HasItsInstance m items scope table) ms
+  each_there k table holds scope bound [] w h = tt
+  each_there k table holds scope bound (config_statement.Channel c ∷ ms) w h =
       let v = den_parts (ends_within m k) m (config_statement_mentions (config_statement.Channel c) bound) (flat_map (λ (x : ConfigStatement). config_statement_mentions x bound) ms) w in
-      each_there k table holds place bound ms v.1 h
-  each_there k table holds place bound (config_statement.Spawn s ∷ ms) w h =
+      each_there k table holds scope bound ms v.1 h
+  each_there k table holds scope bound (config_statement.Spawn s ∷ ms) w h =
       let v = den_parts (ends_within m k) m (config_statement_mentions (config_statement.Spawn s) bound) (flat_map (λ (x : ConfigStatement). config_statement_mentions x bound) ms) w in
       let u = den_parts (ends_within m k) m (mention AsProc s.target.name) (flat_map (λ (a : Arg). mentioned_in_arg a bound) s.arguments) v.0 in
-      (spawned_there k table holds place s u.0 h.0, each_there k table holds place bound ms v.1 h.1)
+      (spawned_there k table holds scope s u.0 h.0, each_there k table holds scope bound ms v.1 h.1)
 
   -- where all with shorter chains stand, it becomes something
   pub checked_next : (k : ℕ) (table : List ProcInstance) → HoldsShorter k table → (p : Proc) (parametric_args : List DslxValue) → IsReachedProc m items top p parametric_args → ends_within m (suc k) p.name.name ≡ true

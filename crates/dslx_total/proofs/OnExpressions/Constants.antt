@@ -32,8 +32,8 @@ slots_named [] = refl
 slots_named (l ∷ ls) = ap (λ names. l.name ∷ names) (slots_named ls)
 
 -- the same names are bound in both
-pub names_alike : (here : Instance → Bool) (context : TypeEnv) (place : CoreScope) → ScopeMatchesEnv here context place → slot_names place.locals ≡ local_names context
-names_alike here context place at = sym (slots_named place.locals) ∙ ap (map (λ (l : Typed). l.name)) at.locals
+pub names_alike : (here : Instance → Bool) (context : TypeEnv) (scope : CoreScope) → ScopeMatchesEnv here context scope → slot_names scope.locals ≡ local_names context
+names_alike here context scope at = sym (slots_named scope.locals) ∙ ap (map (λ (l : Typed). l.name)) at.locals
 
 -- ---- an expression that names no local
 
@@ -52,14 +52,14 @@ same_outside context env h e free =
     (free_alike context env h (free_names e) free))
 
 -- what is seen of an expression that names no local
-pub record SeesOutside (context : TypeEnv) (env : Env) (place : CoreScope) (e : Expr) : Type 0 where
-  pub none : sees_a_local place e ≡ false
-  pub same : value_of e (globals_env place.known) ≡ value_of e (env_there context env.bound)
+pub record SeesOutside (context : TypeEnv) (env : Env) (scope : CoreScope) (e : Expr) : Type 0 where
+  pub none : sees_a_local scope e ≡ false
+  pub same : value_of e (globals_env scope.known) ≡ value_of e (env_there context env.bound)
 
-pub sees_outside : (here : Instance → Bool) (context : TypeEnv) (env : Env) (place : CoreScope) → IsWellTypedEnv context env → ScopeMatchesEnv here context place → (e : ExprPair) → names_a_bound context e ≡ false
-    → SeesOutside context env place e.0
-sees_outside here context env place h at e free = record {
-  none = ap (λ names. list_any (λ name. is_in name names) (free_names e.0)) (names_alike here context place at) ∙ free;
+pub sees_outside : (here : Instance → Bool) (context : TypeEnv) (env : Env) (scope : CoreScope) → IsWellTypedEnv context env → ScopeMatchesEnv here context scope → (e : ExprPair) → names_a_bound context e ≡ false
+    → SeesOutside context env scope e.0
+sees_outside here context env scope h at e free = record {
+  none = ap (λ names. list_any (λ name. is_in name names) (free_names e.0)) (names_alike here context scope at) ∙ free;
   same = (λ i. value_of e.0 (record { items = at.items i; bound = at.parametric_args i })) ∙ same_outside context env h e.0 free;
 }
 
@@ -72,12 +72,12 @@ names_no_local here context e f =
     let none = not_broken (names_a_local context e) 5 (span_of e) (none_in_three a.faults local (size_faults context.known (span_of e).to (record a { faults = a.faults ++ local })) f).1 in
     (or_false (names_a_bound context e) (names_a_member context e) none).0
 
--- a constant has its value at the place
-pub constant_there : (here : Instance → Bool) (context : TypeEnv) (env : Env) (place : CoreScope) (e : ExprPair) (x : ExprDen) → ExprGives e x → IsWellTypedEnv context env → ScopeMatchesEnv here context place
-    → IsWellTypedPart (reaching context.known here) (constant_of context e).judgement → (v : DslxValue) → (constant_of context e).value ≡ Some v → constant_at place e.0 ≡ Some v
-constant_there here context env place e x s h at well_typed v k =
-    let out = sees_outside here context env place h at e (names_no_local here context e well_typed.faults) in
-    ap (λ b. unless_local b (value_of e.0 (globals_env place.known))) out.none ∙ out.same ∙ constant_is_denoted context env.bound e v h.place k
+-- a constant has its value in the scope
+pub constant_there : (here : Instance → Bool) (context : TypeEnv) (env : Env) (scope : CoreScope) (e : ExprPair) (x : ExprDen) → ExprGives e x → IsWellTypedEnv context env → ScopeMatchesEnv here context scope
+    → IsWellTypedPart (reaching context.known here) (constant_of context e).judgement → (v : DslxValue) → (constant_of context e).value ≡ Some v → constant_at scope e.0 ≡ Some v
+constant_there here context env scope e x s h at well_typed v k =
+    let out = sees_outside here context env scope h at e (names_no_local here context e well_typed.faults) in
+    ap (λ b. unless_local b (value_of e.0 (globals_env scope.known))) out.none ∙ out.same ∙ constant_is_denoted context env.bound e v h.place k
 
 -- ---- sizes and bounds
 
@@ -95,24 +95,24 @@ untyped_or_constant here context e f = by_untyped (untyped_of e) refl f
     by_untyped (Some number) q k = ap (list_any (λ name. is_in name (local_names context))) (bare_names_nothing e.0 number q)
 
 -- a size is the number that is known of it
-pub size_there : (here : Instance → Bool) (context : TypeEnv) (env : Env) (place : CoreScope) (e : ExprPair) (x : ExprDen) → ExprGives e x → IsWellTypedEnv context env → ScopeMatchesEnv here context place
-    → IsWellTypedPart (reaching context.known here) (count_of context e).judgement → size_at place e.0 ≡ (count_of context e).count
-size_there here context env place e x s h at well_typed =
-    let n = count_has context env e x s h (well_typed_there here context place (count_of context e).judgement at well_typed) in
+pub size_there : (here : Instance → Bool) (context : TypeEnv) (env : Env) (scope : CoreScope) (e : ExprPair) (x : ExprDen) → ExprGives e x → IsWellTypedEnv context env → ScopeMatchesEnv here context scope
+    → IsWellTypedPart (reaching context.known here) (count_of context e).judgement → size_at scope e.0 ≡ (count_of context e).count
+size_there here context env scope e x s h at well_typed =
+    let n = count_has context env e x s h (well_typed_there here context scope (count_of context e).judgement at well_typed) in
     let c = constant_or_untyped context e in
     let first = (none_in_three c.judgement.faults (count_type_faults (span_of e) c.judgement.ty) (count_faults (span_of e) (count_number c)) well_typed.faults).0 in
-    let out = sees_outside here context env place h at e (untyped_or_constant here context e first) in
-    (ap (λ b. unless_local b (size_of (denotation e.0) (globals_env place.known))) out.none
+    let out = sees_outside here context env scope h at e (untyped_or_constant here context e first) in
+    (ap (λ b. unless_local b (size_of (denotation e.0) (globals_env scope.known))) out.none
     ∙ ap (λ o. and_then (count_in (denotation e.0).bare o) some_count) out.same
     ∙ size_is_denoted context env.bound e n.0 h.place n.1)
     ∙ sym n.1
 
-pub bound_there : (here : Instance → Bool) (context : TypeEnv) (env : Env) (place : CoreScope) (e : ExprPair) (x : ExprDen) → ExprGives e x → IsWellTypedEnv context env → ScopeMatchesEnv here context place
-    → IsWellTypedPart (reaching context.known here) (constant_or_untyped context e).judgement → is_negative_bound (constant_or_untyped context e) ≡ false → bound_at place e.0 ≡ bound_number (constant_or_untyped context e)
-bound_there here context env place e x s h at well_typed positive =
-    let n = bound_has context env e x s h (well_typed_there here context place (constant_or_untyped context e).judgement at well_typed) positive in
-    let out = sees_outside here context env place h at e (untyped_or_constant here context e well_typed.faults) in
-    (ap (λ b. unless_local b (bound_of (denotation e.0) (globals_env place.known))) out.none
+pub bound_there : (here : Instance → Bool) (context : TypeEnv) (env : Env) (scope : CoreScope) (e : ExprPair) (x : ExprDen) → ExprGives e x → IsWellTypedEnv context env → ScopeMatchesEnv here context scope
+    → IsWellTypedPart (reaching context.known here) (constant_or_untyped context e).judgement → is_negative_bound (constant_or_untyped context e) ≡ false → bound_at scope e.0 ≡ bound_number (constant_or_untyped context e)
+bound_there here context env scope e x s h at well_typed positive =
+    let n = bound_has context env e x s h (well_typed_there here context scope (constant_or_untyped context e).judgement at well_typed) positive in
+    let out = sees_outside here context env scope h at e (untyped_or_constant here context e well_typed.faults) in
+    (ap (λ b. unless_local b (bound_of (denotation e.0) (globals_env scope.known))) out.none
     ∙ ap (bound_in (denotation e.0).bare) out.same
     ∙ bound_is_denoted context env.bound e n.0 h.place n.1)
     ∙ sym n.1

@@ -197,8 +197,8 @@ node_claim (Node-F.Node::Number n) span =
     let c = n.1 span in
     let j = (fold_number seen seeing n.0).1 span in
     record {
-      lowers = λ here context env place h at well_typed.
-          literal_typed ((fold_number become becoming n.0).1 place) ∙ c.lowers here context env place h at (limited_well_typed (reaching context.known here) span (j context) well_typed);
+      lowers = λ here context env scope h at well_typed.
+          literal_typed ((fold_number become becoming n.0).1 scope) ∙ c.lowers here context env scope h at (limited_well_typed (reaching context.known here) span (j context) well_typed);
       limited = λ context. limited_keeps span (j context);
     }
 node_claim (Node-F.Node::Bool b) span = record { lowers = lower_total_bool span b; limited = bool_limited span }
@@ -252,8 +252,8 @@ node_claim (Node-F.Index e i) span =
 node_claim (Node-F.Slice e low high) span =
     let typing : TypeExprTyping = λ context. slice_typing span context (fold_expr seen seeing e.0) (fold_expr seen seeing low.0) (fold_expr seen seeing high.0) in
     record {
-      lowers = subst (λ t. PartLowers typing (λ place. lower_slice ((fold_expr become becoming e.0).1 place) (bound_at place (fold_expr become becoming low.0).0) (bound_at place t))) (same_tree high.0)
-          (subst (λ t. PartLowers typing (λ place. lower_slice ((fold_expr become becoming e.0).1 place) (bound_at place t) (bound_at place (fold_expr seen seeing high.0).0))) (same_tree low.0)
+      lowers = subst (λ t. PartLowers typing (λ scope. lower_slice ((fold_expr become becoming e.0).1 scope) (bound_at scope (fold_expr become becoming low.0).0) (bound_at scope t))) (same_tree high.0)
+          (subst (λ t. PartLowers typing (λ scope. lower_slice ((fold_expr become becoming e.0).1 scope) (bound_at scope t) (bound_at scope (fold_expr seen seeing high.0).0))) (same_tree low.0)
           (lower_total_slice span (fold_expr seen seeing e.0) (fold_expr seen seeing low.0) (fold_expr seen seeing high.0) (fold_expr become becoming e.0).1 (fold_expr become becoming low.0).1 (fold_expr become becoming high.0).1
           (expr_part e) (expr_part low) (expr_part high)));
       limited = slice_limited span (fold_expr seen seeing e.0) (fold_expr seen seeing low.0) (fold_expr seen seeing high.0);
@@ -286,7 +286,7 @@ type_claim (TypeNode-F.Bits s n) span = record { lowers = lower_total_bits_type 
 type_claim (TypeNode-F.Wide s e) span =
     let p = fold_expr seen seeing e.0 in
     record {
-      lowers = subst (λ t. TypeLowers (λ context. counted_type span (and_then (count_of context p).count (λ w. Some (ty.Bits s w))) [] (count_of context p)) (λ place. and_then (size_at place t) (λ w. Some (ty.Bits s w)))) (same_tree e.0)
+      lowers = subst (λ t. TypeLowers (λ context. counted_type span (and_then (count_of context p).count (λ w. Some (ty.Bits s w))) [] (count_of context p)) (λ scope. and_then (size_at scope t) (λ w. Some (ty.Bits s w)))) (same_tree e.0)
           (lower_total_wide span s p (denotation e.0) (expression_gives e.0));
       wide = wide_wide span s p;
     }
@@ -301,7 +301,7 @@ type_claim (TypeNode-F.TypeNode::Array t e) span =
     let p = fold_type_expr seen seeing t.0 in
     let n = fold_expr seen seeing e.0 in
     record {
-      lowers = subst (λ x. TypeLowers (λ context. array_of span (inner_type context p) (count_of context n)) (λ place. with_both ((fold_type_expr become becoming t.0).1 place) (size_at place x) (λ t n. Some (ty.Array t n)))) (same_tree e.0)
+      lowers = subst (λ x. TypeLowers (λ context. array_of span (inner_type context p) (count_of context n)) (λ scope. with_both ((fold_type_expr become becoming t.0).1 scope) (size_at scope x) (λ t n. Some (ty.Array t n)))) (same_tree e.0)
           (lower_total_array_type span p (fold_type_expr become becoming t.0).1 n (denotation e.0) t.1.lowers (expression_gives e.0));
       wide = array_type_wide span p n t.1.wide;
     }
@@ -390,8 +390,8 @@ loop_claim y span = by_type y.ty
         let al = (fold_pattern become becoming y.accumulator.0).1 in
         let bl = (fold_block become becoming y.body.0).1 in
         record {
-          lowers = subst (λ u. PartLowers typing (λ place. lower_loop (lower_start.1 place) (lower_from.1 place) (and_then (constant_at place lower_from.0) bits_of) (and_then (constant_at place u) bits_of) il al bl place)) (same_tree y.to.0)
-              (subst (λ u. PartLowers typing (λ place. lower_loop (lower_start.1 place) (lower_from.1 place) (and_then (constant_at place u) bits_of) (and_then (constant_at place to.0) bits_of) il al bl place)) (same_tree y.from.0)
+          lowers = subst (λ u. PartLowers typing (λ scope. lower_loop (lower_start.1 scope) (lower_from.1 scope) (and_then (constant_at scope lower_from.0) bits_of) (and_then (constant_at scope u) bits_of) il al bl scope)) (same_tree y.to.0)
+              (subst (λ u. PartLowers typing (λ scope. lower_loop (lower_start.1 scope) (lower_from.1 scope) (and_then (constant_at scope u) bits_of) (and_then (constant_at scope to.0) bits_of) il al bl scope)) (same_tree y.from.0)
               (lower_total_loop span (span_of_block body) from to start lower_from.1 (fold_expr become becoming y.to.0).1 lower_start.1 written g index acc il al (pattern_denotation y.index.0) (pattern_denotation y.accumulator.0) body bl
               (expr_part y.from) (expr_part y.to) (expr_part y.start) stands y.index.1 y.accumulator.1 (pattern_gives y.index.0) (pattern_gives y.accumulator.0) (block_part y.body)));
           limited = loop_limited span (span_of_block body) (λ context. loop_at context from to start written index acc body (same_ends (constant_of context from).judgement.ty (constant_of context to).judgement.ty));
@@ -416,17 +416,17 @@ number_claim y span = by_type y.ty
     by_type : (o : Option TypePart)
         → NumberExists ((seeing.number (map_number trees seen (folds seen seeing) (map_number Held trees tree (with_type o)))).1 span) (becoming.number (map_number trees become (folds become becoming) (map_number Held trees tree (with_type o)))).1
     by_type None = record {
-      lowers = λ here context env place h at well_typed. refl;
-      known = λ here context env place h at well_typed. some_fault (breaks 7 span) [] well_typed.faults;
+      lowers = λ here context env scope h at well_typed. refl;
+      known = λ here context env scope h at well_typed. some_fault (breaks 7 span) [] well_typed.faults;
     }
     by_type (Some t) =
         let part = type_part t in
         let j = (fold_type_expr seen seeing t.0).1 in
         record {
           lowers = lower_total_number span j (fold_type_expr become becoming t.0).1 number part;
-          known = λ here context env place h at well_typed.
+          known = λ here context env scope h at well_typed.
               let wrong = range_faults span (j context).ty number in
-              let t = type_lowers_to here context env place j _ part h at (record { faults = (none_in (j context).faults wrong well_typed.faults).0; reached = well_typed.reached }) in
+              let t = type_lowers_to here context env scope j _ part h at (record { faults = (none_in (j context).faults wrong well_typed.faults).0; reached = well_typed.reached }) in
               (t.ty, unlimited_type (j context).ty ((j context).faults ++ wrong) (j context).reached (Some 1) well_typed.faults ∙ t.typed, t.declared);
         }
 
@@ -441,20 +441,20 @@ field_claim y = by_value y.value
         → FieldLowers (seeing.field (map_field trees seen (folds seen seeing) (map_field Held trees tree (with_value o)))).1 (becoming.field (map_field trees become (folds become becoming) (map_field Held trees tree (with_value o)))).1
     by_value None = record {
       name = refl;
-      lowers = λ here context struct env place h at well_typed.
+      lowers = λ here context struct env scope h at well_typed.
           let j = name_typing y.name.span context y.name.name in
           let own = no_token y.name.span j in
           let a = alone_well_typed (reaching context.known here) y.name.span j (record { faults = (none_in own.faults _ well_typed.faults).0; reached = well_typed.reached }) in
-          let g = name_has y.name.span context y.name.name env h (well_typed_there here context place j at a.well_typed) in
-          let b = becomes (types_at context) j (lower_name y.name.name place) (value_of_name y.name.name env) g.0 g.1 g.2 (lower_total_name y.name.span y.name.name here context env place h at a.well_typed)
+          let g = name_has y.name.span context y.name.name env h (well_typed_there here context scope j at a.well_typed) in
+          let b = becomes (types_at context) j (lower_name y.name.name scope) (value_of_name y.name.name env) g.0 g.1 g.2 (lower_total_name y.name.span y.name.name here context env scope h at a.well_typed)
           (name_limited y.name.span y.name.name context a.well_typed.faults g.0 g.1) in
           record { expr = b.expr; is = b.is; typed = a.same_type ∙ b.typed; declared = b.declared; value = b.value; given = b.given; narrow = b.narrow };
     }
     by_value (Some e) = record {
       name = refl;
-      lowers = λ here context struct env place h at well_typed.
+      lowers = λ here context struct env scope h at well_typed.
           let a = alone context (fold_expr seen seeing e.0) in
-          let b = alone_lowers_to here context env place (fold_expr seen seeing e.0) (fold_expr become becoming e.0).1 (expr_part e) h at (none_in a.faults _ well_typed.faults).0 well_typed.reached in
+          let b = alone_lowers_to here context env scope (fold_expr seen seeing e.0) (fold_expr become becoming e.0).1 (expr_part e) h at (none_in a.faults _ well_typed.faults).0 well_typed.reached in
           record { expr = b.expr; is = b.is; typed = b.typed; declared = b.declared; value = b.value; given = b.given; narrow = b.narrow };
     }
 
@@ -492,30 +492,30 @@ pub pattern_part : (p : Pattern) → PatternLowers (fold_pattern seen seeing p).
 pattern_part = holds_pattern lowers_to_something all_become
 
 -- whole parts, with what else is known of what they become
-pub block_part_lowers_to : (here : Instance → Bool) (context : TypeEnv) (env : Env) (place : CoreScope) (b : Block) → IsWellTypedEnv context env → ScopeMatchesEnv here context place
-    → IsWellTypedPart (reaching context.known here) ((block_pair b).1 false context) → LowersTo (types_at context) ((block_pair b).1 false context) (lower_block_of_text b place)
-block_part_lowers_to here context env place b h at well_typed = block_lowers_to here context env place (block_pair b).1 (lower_block_of_text b) (block_part (b, holds_block lowers_to_something all_become b)) h at well_typed
+pub block_part_lowers_to : (here : Instance → Bool) (context : TypeEnv) (env : Env) (scope : CoreScope) (b : Block) → IsWellTypedEnv context env → ScopeMatchesEnv here context scope
+    → IsWellTypedPart (reaching context.known here) ((block_pair b).1 false context) → LowersTo (types_at context) ((block_pair b).1 false context) (lower_block_of_text b scope)
+block_part_lowers_to here context env scope b h at well_typed = block_lowers_to here context env scope (block_pair b).1 (lower_block_of_text b) (block_part (b, holds_block lowers_to_something all_become b)) h at well_typed
 
-pub type_part_lowers_to : (here : Instance → Bool) (context : TypeEnv) (env : Env) (place : CoreScope) (t : TypeExpr) → IsWellTypedEnv context env → ScopeMatchesEnv here context place
-    → IsWellTypedPart (reaching context.known here) ((type_pair t).1 context) → LowersToType (types_at context) ((type_pair t).1 context) (lower_type_of_text t place)
-type_part_lowers_to here context env place t h at well_typed = type_lowers_to here context env place (type_pair t).1 (lower_type_of_text t) (type_part (t, holds_type_expr lowers_to_something all_become t)) h at well_typed
+pub type_part_lowers_to : (here : Instance → Bool) (context : TypeEnv) (env : Env) (scope : CoreScope) (t : TypeExpr) → IsWellTypedEnv context env → ScopeMatchesEnv here context scope
+    → IsWellTypedPart (reaching context.known here) ((type_pair t).1 context) → LowersToType (types_at context) ((type_pair t).1 context) (lower_type_of_text t scope)
+type_part_lowers_to here context env scope t h at well_typed = type_lowers_to here context env scope (type_pair t).1 (lower_type_of_text t) (type_part (t, holds_type_expr lowers_to_something all_become t)) h at well_typed
 
 -- an expression becomes something of its type
 pub expression_is_lowered : (e : Expr) → LowersWhereWellTyped ((expr_pair e).1 false) (lower_expression e)
-expression_is_lowered e here context env place h at well_typed =
-    let b = within_lowers_to here context env place (expr_pair e) (lower_expression e) (expression_part e) h at well_typed in
+expression_is_lowered e here context env scope h at well_typed =
+    let b = within_lowers_to here context env scope (expr_pair e) (lower_expression e) (expression_part e) h at well_typed in
     record { expr = b.expr; is = b.is; typed = b.typed }
 
 -- so does a block
 pub block_is_lowered : (b : Block) → LowersWhereWellTyped ((block_pair b).1 false) (lower_block_of_text b)
-block_is_lowered b here context env place h at well_typed =
-    let c = block_part_lowers_to here context env place b h at well_typed in
+block_is_lowered b here context env scope h at well_typed =
+    let c = block_part_lowers_to here context env scope b h at well_typed in
     record { expr = c.expr; is = c.is; typed = c.typed }
 
 -- and a written type becomes what is known of it
 pub type_is_lowered : (t : TypeExpr) → TypeLowersWhereWellTyped (type_pair t).1 (lower_type_of_text t)
-type_is_lowered t here context env place h at well_typed =
-    let b = type_part_lowers_to here context env place t h at well_typed in
+type_is_lowered t here context env scope h at well_typed =
+    let b = type_part_lowers_to here context env scope t h at well_typed in
     record { ty = b.ty; is = b.is; typed = b.typed }
 
 -- all bits in a type have a width

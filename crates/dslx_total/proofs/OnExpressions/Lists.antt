@@ -51,22 +51,22 @@ all_there types ts os all = ap all_some all.are ∙ all_are all.exprs
 pub all_typed : (types : Declarations) (ts : List (Option DslxType)) (os : List (Option LoweredExpr)) (all : AllBecome types ts os) → all_some ts ≡ Some (types_of_lowered all.exprs)
 all_typed types ts os all = ap all_some all.typed ∙ all_are (types_of_lowered all.exprs)
 
-module _ (here : Instance → Bool) (context : TypeEnv) (env : Env) (place : CoreScope) (h : IsWellTypedEnv context env) (at : ScopeMatchesEnv here context place) where
+module _ (here : Instance → Bool) (context : TypeEnv) (env : Env) (scope : CoreScope) (h : IsWellTypedEnv context env) (at : ScopeMatchesEnv here context scope) where
   -- operands
   pub all_alone_become : (es : List ExprPair) (xs : List LoweredPair) → EachExprLowers es xs → faults_of_all (all_alone context es) ≡ [] → list_all here (reached_of_all (all_alone context es)) ≡ true
-      → AllBecome (types_at context) (types_of (all_alone context es)) (lower_all place xs)
+      → AllBecome (types_at context) (types_of (all_alone context es)) (lower_all scope xs)
   all_alone_become [] [] k f r = none_become (types_at context)
   all_alone_become [] (x ∷ xs) k f r = absurd k
   all_alone_become (e ∷ es) [] k f r = absurd k
   all_alone_become (e ∷ es) (x ∷ xs) k f r =
       let p = none_in (alone context e).faults (faults_of_all (all_alone context es)) f in
       let q = all_in here (alone context e).reached (reached_of_all (all_alone context es)) r in
-      one_more_lowers_to (types_at context) (alone context e) (types_of (all_alone context es)) (x.1 place) (lower_all place xs) (alone_lowers_to here context env place e x.1 k.1 h at p.0 q.0)
+      one_more_lowers_to (types_at context) (alone context e) (types_of (all_alone context es)) (x.1 scope) (lower_all scope xs) (alone_lowers_to here context env scope e x.1 k.1 h at p.0 q.0)
       (all_alone_become es xs k.2 p.1 q.1)
 
   -- elements
   pub elements_become : (es : List ExprPair) (xs : List LoweredPair) → EachExprLowers es xs → faults_of_all (map (element_alone context) es) ≡ [] → list_all here (reached_of_all (map (element_alone context) es)) ≡ true
-      → AllBecome (types_at context) (types_of (map (element_alone context) es)) (lower_all place xs)
+      → AllBecome (types_at context) (types_of (map (element_alone context) es)) (lower_all scope xs)
   elements_become [] [] k f r = none_become (types_at context)
   elements_become [] (x ∷ xs) k f r = absurd k
   elements_become (e ∷ es) [] k f r = absurd k
@@ -74,5 +74,5 @@ module _ (here : Instance → Bool) (context : TypeEnv) (env : Env) (place : Cor
       let a = alone context e in
       let p = none_in (a.faults ++ unit_faults (span_of e) a.ty) (faults_of_all (map (element_alone context) es)) f in
       let q = all_in here a.reached (reached_of_all (map (element_alone context) es)) r in
-      one_more_lowers_to (types_at context) a (types_of (map (element_alone context) es)) (x.1 place) (lower_all place xs)
-      (alone_lowers_to here context env place e x.1 k.1 h at (none_in a.faults (unit_faults (span_of e) a.ty) p.0).0 q.0) (elements_become es xs k.2 p.1 q.1)
+      one_more_lowers_to (types_at context) a (types_of (map (element_alone context) es)) (x.1 scope) (lower_all scope xs)
+      (alone_lowers_to here context env scope e x.1 k.1 h at (none_in a.faults (unit_faults (span_of e) a.ty) p.0).0 q.0) (elements_become es xs k.2 p.1 q.1)

@@ -38,17 +38,17 @@ pub record BlockLowers (j : ExprTyping) (l : ExprLowering) : Type 0 where
   pub lowers : PartLowers (j false) l
   pub limited : IsLimited (j false)
 
-pub block_lowers_to : (here : Instance → Bool) (context : TypeEnv) (env : Env) (place : CoreScope) (j : ExprTyping) (l : ExprLowering) → BlockLowers j l → IsWellTypedEnv context env → ScopeMatchesEnv here context place
-    → IsWellTypedPart (reaching context.known here) (j false context) → LowersTo (types_at context) (j false context) (l place)
-block_lowers_to here context env place j l s h at well_typed =
-    let g = s.gives context env h (well_typed_there here context place (j false context) at well_typed) in
-    becomes (types_at context) (j false context) (l place) (s.meaning env) g.0 g.1 g.2 (s.lowers here context env place h at well_typed) (s.limited context well_typed.faults g.0 g.1)
+pub block_lowers_to : (here : Instance → Bool) (context : TypeEnv) (env : Env) (scope : CoreScope) (j : ExprTyping) (l : ExprLowering) → BlockLowers j l → IsWellTypedEnv context env → ScopeMatchesEnv here context scope
+    → IsWellTypedPart (reaching context.known here) (j false context) → LowersTo (types_at context) (j false context) (l scope)
+block_lowers_to here context env scope j l s h at well_typed =
+    let g = s.gives context env h (well_typed_there here context scope (j false context) at well_typed) in
+    becomes (types_at context) (j false context) (l scope) (s.meaning env) g.0 g.1 g.2 (s.lowers here context env scope h at well_typed) (s.limited context well_typed.faults g.0 g.1)
 
 -- ---- if
 
 pub lower_total_if : (span : Span) (c : ExprPair) (a : BlockPair) (b : ExprPair) (x y z : ExprLowering) → ExprLowers c x → BlockLowers a.1 y → ExprLowers b z
-    → PartLowers (λ context. if_typing span context c a b) (λ place. lower_choice (x place) (y place) (z place))
-lower_total_if span c a b x y z sc sa sb here context env place h at well_typed =
+    → PartLowers (λ context. if_typing span context c a b) (λ scope. lower_choice (x scope) (y scope) (z scope))
+lower_total_if span c a b x y z sc sa sb here context env scope h at well_typed =
     let condition = alone context c in
     let first = block_alone context a in
     let second = alone context b in
@@ -60,9 +60,9 @@ lower_total_if span c a b x y z sc sa sb here context env place h at well_typed 
     let p = none_in_three three bool same s.faults in
     let q = none_in_three condition.faults first.faults second.faults p.0 in
     let k = all_in_three here condition.reached first.reached second.reached s.reached in
-    let gc = alone_lowers_to here context env place c x sc h at q.0 k.0 in
-    let ga = block_lowers_to here context env place a.1 y sa h at (record { faults = q.1; reached = k.1 }) in
-    let gb = alone_lowers_to here context env place b z sb h at q.2 k.2 in
+    let gc = alone_lowers_to here context env scope c x sc h at q.0 k.0 in
+    let ga = block_lowers_to here context env scope a.1 y sa h at (record { faults = q.1; reached = k.1 }) in
+    let gb = alone_lowers_to here context env scope b z sb h at q.2 k.2 in
     let like = passed (same_type ga.expr.ty gb.expr.ty) 25 span ((λ i. unless_types same_type 25 span (sym ga.typed i) (sym gb.typed i)) ∙ p.2) in
     (λ i. type_of_lowered (lower_choice (gc.is i) (ga.is i) (gb.is i)))
     ∙ ap (λ t. type_of_lowered (where_true t (lowered (core.Choose gc.expr.core ga.expr.core gb.expr.core) ga.expr.ty))) (equal_of_text (types_at context) ga.expr.ty gb.expr.ty like ga.declared gb.declared)
@@ -72,9 +72,9 @@ lower_total_if span c a b x y z sc sa sb here context env place h at well_typed 
 
 -- whatever type the rest of the block has behind a statement, the whole has
 pub record StatementLowers (s : StatementTyping) (l : ExprLowering → ExprLowering) : Type 0 where
-  pub lowers : (here : Instance → Bool) (context : TypeEnv) (env : Env) (place : CoreScope) → IsWellTypedEnv context env → ScopeMatchesEnv here context place → IsClean here (s false context).faults (s false context).reached
+  pub lowers : (here : Instance → Bool) (context : TypeEnv) (env : Env) (scope : CoreScope) → IsWellTypedEnv context env → ScopeMatchesEnv here context scope → IsClean here (s false context).faults (s false context).reached
       → (rest : ExprLowering) (t : Option DslxType)
-      → ((inner : Env) (beyond : CoreScope) → IsWellTypedEnv (s false context).context inner → ScopeMatchesEnv here (s false context).context beyond → type_of_lowered (rest beyond) ≡ t) → type_of_lowered (l rest place) ≡ t
+      → ((inner : Env) (beyond : CoreScope) → IsWellTypedEnv (s false context).context inner → ScopeMatchesEnv here (s false context).context beyond → type_of_lowered (rest beyond) ≡ t) → type_of_lowered (l rest scope) ≡ t
 
 -- what a statement uses up of channels types don't see
 pub typed_behind : (context : TypeEnv) (locals : List Typed) (e : Expr) (env : Env) → IsWellTypedEnv (with_typed context locals) env → IsWellTypedEnv (behind context locals e) env
@@ -91,8 +91,8 @@ typed_behind context locals e env h = record {
   known = h.known;
 }
 
-pub stands_behind : (here : Instance → Bool) (context : TypeEnv) (locals : List Typed) (e : Expr) (place : CoreScope) → ScopeMatchesEnv here (with_typed context locals) place → ScopeMatchesEnv here (behind context locals e) place
-stands_behind here context locals e place at =
+pub stands_behind : (here : Instance → Bool) (context : TypeEnv) (locals : List Typed) (e : Expr) (scope : CoreScope) → ScopeMatchesEnv here (with_typed context locals) scope → ScopeMatchesEnv here (behind context locals e) scope
+stands_behind here context locals e scope at =
     record { items = at.items; parametric_args = at.parametric_args; locals = at.locals; sound = at.sound; calls = at.calls; widths = at.widths; constants = at.constants }
 
 typed_rest : (o : Option LoweredExpr) (f : LoweredExpr → CoreExpr) → type_of_lowered (and_then o (λ r. lowered (f r) r.ty)) ≡ type_of_lowered o
@@ -100,15 +100,15 @@ typed_rest None f = refl
 typed_rest (Some r) f = refl
 
 -- the type that a `let` gives its pattern
-pub bound_there : (here : Instance → Bool) (context : TypeEnv) (env : Env) (place : CoreScope) → IsWellTypedEnv context env → ScopeMatchesEnv here context place → (span : Span) (written : Option TypePair) (f : Option TypeDen) → TypeHasDenIf written f → (t : DslxType)
+pub bound_there : (here : Instance → Bool) (context : TypeEnv) (env : Env) (scope : CoreScope) → IsWellTypedEnv context env → ScopeMatchesEnv here context scope → (span : Span) (written : Option TypePair) (f : Option TypeDen) → TypeHasDenIf written f → (t : DslxType)
     → annotation_faults span (written_typing context written) (Some t) ≡ [] → list_all here (annotation_reached (written_typing context written)) ≡ true → bound_type (written_typing context written) (Some t) ≡ Some t
-bound_there here context env place h at span None None k t e r = refl
-bound_there here context env place h at span None (Some f) k t e r = absurd k
-bound_there here context env place h at span (Some p) None k t e r = absurd k
-bound_there here context env place h at span (Some p) (Some f) k t e r =
+bound_there here context env scope h at span None None k t e r = refl
+bound_there here context env scope h at span None (Some f) k t e r = absurd k
+bound_there here context env scope h at span (Some p) None k t e r = absurd k
+bound_there here context env scope h at span (Some p) (Some f) k t e r =
     let j = p.1 context in
     let q = none_in j.faults (wanted_faults span j.ty (Some t)) e in
-    let w = k.known context env h (well_typed_there here context place j at (record { faults = q.0; reached = r })) in
+    let w = k.known context env h (well_typed_there here context scope j at (record { faults = q.0; reached = r })) in
     let same = passed (same_type w.0 t) 9 span (ap (λ o. wanted_faults span o (Some t)) (sym w.1) ∙ q.1) in
     ap (λ o. with_both o (Some t) (λ w u. if same_type w u then Some u else None)) w.1 ∙ ap (λ b. if b then Some t else None) same
 
@@ -116,29 +116,29 @@ pub lower_total_let : (span : Span) (e : ExprPair) (x : ExprLowering) (written :
     → PatternGives p.1 m
     → StatementLowers (λ on_top context. let_with context e.0 span (e.1 on_top context) (written_typing context written) (pattern_alone false context (bound_type (written_typing context written) (e.1 on_top context).ty) p)) (lower_let x l)
 lower_total_let span e x written f p l m s st pl pg = record {
-  lowers = λ here context env place h at clean rest t goes.
+  lowers = λ here context env scope h at clean rest t goes.
       let value = within context e in
       let j = written_typing context written in
       let bound = pattern_alone false context (bound_type j value.ty) p in
       let q = none_in_three value.faults (annotation_faults span j value.ty) bound.faults clean.faults in
       let r = all_in_three here value.reached (annotation_reached j) bound.reached clean.reached in
-      let g = within_lowers_to here context env place e x s h at (record { faults = q.0; reached = r.0 }) in
-      let own = bound_there here context env place h at span written f st g.expr.ty (ap (annotation_faults span j) (sym g.typed) ∙ q.1) r.1 in
+      let g = within_lowers_to here context env scope e x s h at (record { faults = q.0; reached = r.0 }) in
+      let own = bound_there here context env scope h at span written f st g.expr.ty (ap (annotation_faults span j) (sym g.typed) ∙ q.1) r.1 in
       let typed : bound_type j value.ty ≡ Some g.expr.ty = ap (bound_type j) g.typed ∙ own in
       let seen : bound ≡ pattern_alone false context (Some g.expr.ty) p = ap (λ o. pattern_alone false context o p) typed in
-      let one = pl.lowers here false context g.expr.ty [] context.locals env place place h at at g.declared (record { faults = ap (λ (b : PatternSeen). b.faults) (sym seen) ∙ q.2; reached = ap (λ (b : PatternSeen). list_all here b.reached) (sym seen) ∙ r.2 }) in
+      let one = pl.lowers here false context g.expr.ty [] context.locals env scope scope h at at g.declared (record { faults = ap (λ (b : PatternSeen). b.faults) (sym seen) ∙ q.2; reached = ap (λ (b : PatternSeen). list_all here b.reached) (sym seen) ∙ r.2 }) in
       let inner = pg.behind false context g.expr.ty [] context.locals env g.value h g.given (ap (λ (b : PatternSeen). has_broken b.faults) (sym seen) ∙ ap has_broken q.2) in
       let here_typed = subst (λ (b : PatternSeen). IsWellTypedEnv (behind context b.locals e.0) inner.0) (sym seen) (typed_behind context (pattern_alone false context (Some g.expr.ty) p).locals e.0 inner.0 inner.1) in
-      let here_stands = subst (λ (b : PatternSeen). ScopeMatchesEnv here (behind context b.locals e.0) one.shape.place) (sym seen) (stands_behind here context (pattern_alone false context (Some g.expr.ty) p).locals e.0 one.shape.place one.behind) in
-      ap (λ o. type_of_lowered (and_then o (λ e. and_then (lower_in_scope l place e.ty) (λ s. and_then (rest s.place) (λ r. lowered (core.Bind e.core s.shape r.core) r.ty))))) g.is
-      ∙ ap (λ o. type_of_lowered (and_then o (λ s. and_then (rest s.place) (λ r. lowered (core.Bind g.expr.core s.shape r.core) r.ty)))) one.is
-      ∙ typed_rest (rest one.shape.place) (λ r. core.Bind g.expr.core one.shape.shape r.core)
-      ∙ goes inner.0 one.shape.place here_typed here_stands;
+      let here_stands = subst (λ (b : PatternSeen). ScopeMatchesEnv here (behind context b.locals e.0) one.shape.scope) (sym seen) (stands_behind here context (pattern_alone false context (Some g.expr.ty) p).locals e.0 one.shape.scope one.behind) in
+      ap (λ o. type_of_lowered (and_then o (λ e. and_then (lower_in_scope l scope e.ty) (λ s. and_then (rest s.scope) (λ r. lowered (core.Bind e.core s.shape r.core) r.ty))))) g.is
+      ∙ ap (λ o. type_of_lowered (and_then o (λ s. and_then (rest s.scope) (λ r. lowered (core.Bind g.expr.core s.shape r.core) r.ty)))) one.is
+      ∙ typed_rest (rest one.shape.scope) (λ r. core.Bind g.expr.core one.shape.shape r.core)
+      ∙ goes inner.0 one.shape.scope here_typed here_stands;
 }
 
 pub lower_total_bare : (e : ExprPair)
-    → StatementLowers (λ on_top context. record { context = behind context context.locals e.0; faults = (alone context e).faults; reached = (alone context e).reached; size = (alone context e).size }) (λ rest place. rest place)
-lower_total_bare e = record { lowers = λ here context env place h at clean rest t goes. goes env place (typed_behind context context.locals e.0 env h) (stands_behind here context context.locals e.0 place at) }
+    → StatementLowers (λ on_top context. record { context = behind context context.locals e.0; faults = (alone context e).faults; reached = (alone context e).reached; size = (alone context e).size }) (λ rest scope. rest scope)
+lower_total_bare e = record { lowers = λ here context env scope h at clean rest t goes. goes env scope (typed_behind context context.locals e.0 env h) (stands_behind here context context.locals e.0 scope at) }
 
 abbrev pub EachStatementLowers : List StatementTyping → List (ExprLowering → ExprLowering) → Type 0
 EachStatementLowers [] [] = Unit {0}
@@ -146,30 +146,30 @@ EachStatementLowers (s ∷ ss) (l ∷ ls) = StatementLowers s l × EachStatement
 EachStatementLowers [] (l ∷ ls) = ⊥
 EachStatementLowers (s ∷ ss) [] = ⊥
 
-lower_total_statements : (ss : List StatementTyping) (ls : List (ExprLowering → ExprLowering)) → EachStatementLowers ss ls → (here : Instance → Bool) (context : TypeEnv) (env : Env) (place : CoreScope) → IsWellTypedEnv context env → ScopeMatchesEnv here context place
+lower_total_statements : (ss : List StatementTyping) (ls : List (ExprLowering → ExprLowering)) → EachStatementLowers ss ls → (here : Instance → Bool) (context : TypeEnv) (env : Env) (scope : CoreScope) → IsWellTypedEnv context env → ScopeMatchesEnv here context scope
     → IsClean here (statements_typing ss false context).faults (statements_typing ss false context).reached → (last : ExprLowering) (t : Option DslxType)
     → ((inner : Env) (beyond : CoreScope) → IsWellTypedEnv (statements_typing ss false context).context inner → ScopeMatchesEnv here (statements_typing ss false context).context beyond → type_of_lowered (last beyond) ≡ t)
-    → type_of_lowered (lower_statements ls last place) ≡ t
-lower_total_statements [] [] k here context env place h at clean last t goes = goes env place h at
-lower_total_statements [] (l ∷ ls) k here context env place h at clean last t goes = absurd k
-lower_total_statements (s ∷ ss) [] k here context env place h at clean last t goes = absurd k
-lower_total_statements (s ∷ ss) (l ∷ ls) k here context env place h at clean last t goes =
+    → type_of_lowered (lower_statements ls last scope) ≡ t
+lower_total_statements [] [] k here context env scope h at clean last t goes = goes env scope h at
+lower_total_statements [] (l ∷ ls) k here context env scope h at clean last t goes = absurd k
+lower_total_statements (s ∷ ss) [] k here context env scope h at clean last t goes = absurd k
+lower_total_statements (s ∷ ss) (l ∷ ls) k here context env scope h at clean last t goes =
     let first = s false context in
     let rest = statements_typing ss false first.context in
     let p = none_in first.faults rest.faults clean.faults in
     let q = all_in here first.reached rest.reached clean.reached in
-    k.0.lowers here context env place h at (record { faults = p.0; reached = q.0 }) (lower_statements ls last) t
+    k.0.lowers here context env scope h at (record { faults = p.0; reached = q.0 }) (lower_statements ls last) t
     (λ inner beyond typed stands. lower_total_statements ss ls k.1 here first.context inner beyond typed stands (record { faults = p.1; reached = q.1 }) last t goes)
 
 -- ---- blocks
 
-last_typed : (here : Instance → Bool) (context : TypeEnv) (env : Env) (place : CoreScope) → IsWellTypedEnv context env → ScopeMatchesEnv here context place → (o : Option ExprPair) (x : Option LoweredPair) → ExprLowersIf o x
-    → IsWellTypedPart (reaching context.known here) (last_typing context o) → type_of_lowered (lower_last_value x place) ≡ (last_typing context o).ty
-last_typed here context env place h at None None k well_typed = refl
-last_typed here context env place h at None (Some x) k well_typed = absurd k
-last_typed here context env place h at (Some e) None k well_typed = absurd k
-last_typed here context env place h at (Some e) (Some x) k well_typed =
-    let g = alone_lowers_to here context env place e x.1 k h at well_typed.faults well_typed.reached in
+last_typed : (here : Instance → Bool) (context : TypeEnv) (env : Env) (scope : CoreScope) → IsWellTypedEnv context env → ScopeMatchesEnv here context scope → (o : Option ExprPair) (x : Option LoweredPair) → ExprLowersIf o x
+    → IsWellTypedPart (reaching context.known here) (last_typing context o) → type_of_lowered (lower_last_value x scope) ≡ (last_typing context o).ty
+last_typed here context env scope h at None None k well_typed = refl
+last_typed here context env scope h at None (Some x) k well_typed = absurd k
+last_typed here context env scope h at (Some e) None k well_typed = absurd k
+last_typed here context env scope h at (Some e) (Some x) k well_typed =
+    let g = alone_lowers_to here context env scope e x.1 k h at well_typed.faults well_typed.reached in
     ap type_of_lowered g.is ∙ sym g.typed
 
 pub lower_total_block : (span : Span) (ss : List StatementTyping) (ls : List (ExprLowering → ExprLowering)) (o : Option ExprPair) (x : Option LoweredPair) → EachStatementLowers ss ls → ExprLowersIf o x
@@ -177,12 +177,12 @@ pub lower_total_block : (span : Span) (ss : List StatementTyping) (ls : List (Ex
     ((statements_typing ss false context).reached ++ (last_typing (statements_typing ss false context).context o).reached)
     (one_and (plus_size (statements_typing ss false context).size (last_typing (statements_typing ss false context).context o).size)))
     (lower_statements ls (lower_last_value x))
-lower_total_block span ss ls o x ks ko here context env place h at well_typed =
+lower_total_block span ss ls o x ks ko here context env scope h at well_typed =
     let walked = statements_typing ss false context in
     let last = last_typing walked.context o in
     let s = settled_well_typed (reaching context.known here) span last.ty (walked.faults ++ last.faults) (walked.reached ++ last.reached) (one_and (plus_size walked.size last.size)) well_typed in
     let p = none_in walked.faults last.faults s.faults in
     let q = all_in here walked.reached last.reached s.reached in
-    lower_total_statements ss ls ks here context env place h at (record { faults = p.0; reached = q.0 }) (lower_last_value x) last.ty
+    lower_total_statements ss ls ks here context env scope h at (record { faults = p.0; reached = q.0 }) (lower_last_value x) last.ty
     (λ inner beyond typed stands. last_typed here walked.context inner beyond typed stands o x ko (record { faults = p.1; reached = q.1 }))
     ∙ sym s.ty

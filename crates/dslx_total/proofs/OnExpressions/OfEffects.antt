@@ -120,11 +120,11 @@ act_named act (Some name) = act name
 -- ---- what stands at the top
 
 -- it has a type, and becomes steps: whatever they bind, the rest goes on behind it
-pub record ActThere (types : Declarations) (outer : CoreScope) (ends : List End) (place : CoreScope) (e : Expr) (act : SiteAct) (j : Judgement) : Type 0 where
+pub record ActThere (types : Declarations) (outer : CoreScope) (ends : List End) (scope : CoreScope) (e : Expr) (act : SiteAct) (j : Judgement) : Type 0 where
   pub own : DslxType
   pub typed : j.ty ≡ Some own
   pub declared : IsDeclared types own
-  pub steps : (binds : BindsInScope) (rest : StepsLowering) (s : LoweredShape) → binds place own ≡ Some s → type_of_steps (lower_act outer ends act e binds rest place) ≡ type_of_steps (rest s.place)
+  pub steps : (binds : BindsInScope) (rest : StepsLowering) (s : LoweredShape) → binds scope own ≡ Some s → type_of_steps (lower_act outer ends act e binds rest scope) ≡ type_of_steps (rest s.scope)
 
 token_declared : (types : Declarations) → IsDeclared types ty.Token
 token_declared types = ap (as_declared types) (sym rolls.rolls-Token) ∙ fold-roll-DslxType DslxType (declared_step types) DslxType-F.Token
@@ -132,18 +132,18 @@ token_declared types = ap (as_declared types) (sym rolls.rolls-Token) ∙ fold-r
 received_declared : (types : Declarations) (w : DslxType) → IsDeclared types w → IsDeclared types (received w)
 received_declared types w d = tuple_declared types (ty.Token ∷ w ∷ []) (token_declared types, (d, tt))
 
-module _ (here : Instance → Bool) (context : TypeEnv) (env : Env) (outer place : CoreScope) (ends : List End) (h : IsWellTypedEnv context env) (at : ScopeMatchesEnv here context place) (members : MembersExist context outer ends) where
-  pub computes_there : (e : Expr) → IsWellTypedPart (reaching context.known here) ((expr_pair e).1 false context) → ActThere (types_at context) outer ends place e Computes ((expr_pair e).1 false context)
+module _ (here : Instance → Bool) (context : TypeEnv) (env : Env) (outer scope : CoreScope) (ends : List End) (h : IsWellTypedEnv context env) (at : ScopeMatchesEnv here context scope) (members : MembersExist context outer ends) where
+  pub computes_there : (e : Expr) → IsWellTypedPart (reaching context.known here) ((expr_pair e).1 false context) → ActThere (types_at context) outer ends scope e Computes ((expr_pair e).1 false context)
   computes_there e well_typed =
-      let b = within_lowers_to here context env place (expr_pair e) (lower_expression e) (expression_part e) h at well_typed in
+      let b = within_lowers_to here context env scope (expr_pair e) (lower_expression e) (expression_part e) h at well_typed in
       record {
         own = b.expr.ty;
         typed = b.typed;
         declared = b.declared;
         steps = λ binds rest s q.
-            ap (λ o. type_of_steps (and_then o (λ e. lower_compute e binds rest place))) b.is
-            ∙ ap (λ o. type_of_steps (and_then o (λ s. step_then (step.Bind b.expr.core s.shape) (rest s.place)))) q
-            ∙ one_step (step.Bind b.expr.core s.shape) (rest s.place);
+            ap (λ o. type_of_steps (and_then o (λ e. lower_compute e binds rest scope))) b.is
+            ∙ ap (λ o. type_of_steps (and_then o (λ s. step_then (step.Bind b.expr.core s.shape) (rest s.scope)))) q
+            ∙ one_step (step.Bind b.expr.core s.shape) (rest s.scope);
       }
 
   -- the token that an effect takes
@@ -151,15 +151,15 @@ module _ (here : Instance → Bool) (context : TypeEnv) (env : Env) (outer place
       → (u : DslxType) × ((token_typing context (expr_pair t)).ty ≡ Some u)
   token_there t f r =
       let a = within context (expr_pair t) in
-      let b = within_lowers_to here context env place (expr_pair t) (lower_expression t) (expression_part t) h at (record { faults = (none_in a.faults (token_faults (span_of (expr_pair t)) a.ty) f).0; reached = r }) in
+      let b = within_lowers_to here context env scope (expr_pair t) (lower_expression t) (expression_part t) h at (record { faults = (none_in a.faults (token_faults (span_of (expr_pair t)) a.ty) f).0; reached = r }) in
       (b.expr.ty, b.typed)
 
-  value_there : (e : Expr) → (alone context (expr_pair e)).faults ≡ [] → list_all here (alone context (expr_pair e)).reached ≡ true → LowersTo (types_at context) (alone context (expr_pair e)) (lower_expression e place)
-  value_there e f r = alone_lowers_to here context env place (expr_pair e) (lower_expression e) (expression_part e) h at f r
+  value_there : (e : Expr) → (alone context (expr_pair e)).faults ≡ [] → list_all here (alone context (expr_pair e)).reached ≡ true → LowersTo (types_at context) (alone context (expr_pair e)) (lower_expression e scope)
+  value_there e f r = alone_lowers_to here context env scope (expr_pair e) (lower_expression e) (expression_part e) h at f r
 
   -- a word of the member's type
-  word_there : (e : Expr) (m : CoreMember) → IsDeclared (types_at context) m.word → (b : LowersTo (types_at context) (alone context (expr_pair e)) (lower_expression e place)) (o : Option DslxType) → o ≡ Some m.word
-      → wanted_faults (span_of (expr_pair e)) o (alone context (expr_pair e)).ty ≡ [] → of_type m.word (lower_expression e place) ≡ Some b.expr
+  word_there : (e : Expr) (m : CoreMember) → IsDeclared (types_at context) m.word → (b : LowersTo (types_at context) (alone context (expr_pair e)) (lower_expression e scope)) (o : Option DslxType) → o ≡ Some m.word
+      → wanted_faults (span_of (expr_pair e)) o (alone context (expr_pair e)).ty ≡ [] → of_type m.word (lower_expression e scope) ≡ Some b.expr
   word_there e m d b o q f =
       let same = passed (same_type m.word b.expr.ty) 9 (span_of (expr_pair e)) ((λ i. wanted_faults (span_of (expr_pair e)) (sym q i) (sym b.typed i)) ∙ f) in
       ap (of_type m.word) b.is ∙ ap (λ c. where_true c (Some b.expr)) (equal_of_text (types_at context) m.word b.expr.ty same d b.declared)
@@ -169,7 +169,7 @@ module _ (here : Instance → Bool) (context : TypeEnv) (env : Env) (outer place
   member_there c ch act = ap (act_named act) (ap (λ x. name_in_node (node_of x)) (sym (own_expr typing_sorts typing_steps c)) ∙ ch.is)
 
   pub receiving_there : (span : Span) (e t c : Expr) → IsWellTypedPart (reaching context.known here) (receiving span context (expr_pair t ∷ expr_pair c ∷ []))
-      → ActThere (types_at context) outer ends place e (at_channel c TakesWord) (receiving span context (expr_pair t ∷ expr_pair c ∷ []))
+      → ActThere (types_at context) outer ends scope e (at_channel c TakesWord) (receiving span context (expr_pair t ∷ expr_pair c ∷ []))
   receiving_there span e t c well_typed =
       let channel = channel_seen context (expr_pair c) in
       let q = effect_well_typed (reaching context.known here) span context In (token_typing context (expr_pair t)) channel [] [] (and_then (word_of channel) (λ w. Some (received w))) well_typed in
@@ -177,19 +177,19 @@ module _ (here : Instance → Bool) (context : TypeEnv) (env : Env) (outer place
       let ch = channel_there context (expr_pair c) (name_of_expr (expr_pair c)) span In q.site in
       let m = members ch.name ch.channel_end ch.found in
       let word : word_of channel ≡ Some m.member.word = ch.word ∙ m.word in
-      subst (λ a. ActThere (types_at context) outer ends place e a (receiving span context (expr_pair t ∷ expr_pair c ∷ []))) (sym (member_there c ch TakesWord))
+      subst (λ a. ActThere (types_at context) outer ends scope e a (receiving span context (expr_pair t ∷ expr_pair c ∷ []))) (sym (member_there c ch TakesWord))
       (record {
         own = received m.member.word;
         typed = q.ty ∙ (λ i. and_then (tok.1 i) (λ u. and_then (word i) (λ w. Some (received w))));
         declared = received_declared (types_at context) m.member.word m.declared;
         steps = λ binds rest s k.
-            ap (λ o. type_of_steps (and_then o (λ m. lower_receive m None binds rest place))) m.is
-            ∙ ap (λ o. type_of_steps (and_then o (λ s. step_then (step.Receive (record { member = m.member.number; word = plain_type m.member.word; condition = None; shape = s.shape })) (rest s.place)))) k
-            ∙ one_step (step.Receive (record { member = m.member.number; word = plain_type m.member.word; condition = None; shape = s.shape })) (rest s.place);
+            ap (λ o. type_of_steps (and_then o (λ m. lower_receive m None binds rest scope))) m.is
+            ∙ ap (λ o. type_of_steps (and_then o (λ s. step_then (step.Receive (record { member = m.member.number; word = plain_type m.member.word; condition = None; shape = s.shape })) (rest s.scope)))) k
+            ∙ one_step (step.Receive (record { member = m.member.number; word = plain_type m.member.word; condition = None; shape = s.shape })) (rest s.scope);
       })
 
   pub sending_there : (span : Span) (e t c x : Expr) → IsWellTypedPart (reaching context.known here) (sending span context (expr_pair t ∷ expr_pair c ∷ expr_pair x ∷ []))
-      → ActThere (types_at context) outer ends place e (at_channel c (λ name. SendsWord name x)) (sending span context (expr_pair t ∷ expr_pair c ∷ expr_pair x ∷ []))
+      → ActThere (types_at context) outer ends scope e (at_channel c (λ name. SendsWord name x)) (sending span context (expr_pair t ∷ expr_pair c ∷ expr_pair x ∷ []))
   sending_there span e t c x well_typed =
       let channel = channel_seen context (expr_pair c) in
       let value = alone context (expr_pair x) in
@@ -200,21 +200,21 @@ module _ (here : Instance → Bool) (context : TypeEnv) (env : Env) (outer place
       let word : word_of channel ≡ Some m.member.word = ch.word ∙ m.word in
       let b = value_there x (none_in value.faults [] q.others).0 (all_in here value.reached [] q.others_reached).0 in
       let of = word_there x m.member m.declared b (word_of channel) word q.more in
-      subst (λ a. ActThere (types_at context) outer ends place e a (sending span context (expr_pair t ∷ expr_pair c ∷ expr_pair x ∷ []))) (sym (member_there c ch (λ name. SendsWord name x)))
+      subst (λ a. ActThere (types_at context) outer ends scope e a (sending span context (expr_pair t ∷ expr_pair c ∷ expr_pair x ∷ []))) (sym (member_there c ch (λ name. SendsWord name x)))
       (record {
         own = ty.Token;
         typed = q.ty ∙ (λ i. and_then (tok.1 i) (λ u. when_all (b.typed i ∷ []) (and_then (word i) (λ w. Some ty.Token))));
         declared = token_declared (types_at context);
         steps = λ binds rest s k.
-            ap (λ o. type_of_steps (and_then o (λ m. and_then (of_type m.word (lower_expression x place)) (λ word. lower_send m None word binds rest place)))) m.is
-            ∙ ap (λ o. type_of_steps (and_then o (λ word. lower_send m.member None word binds rest place))) of
-            ∙ ap (λ o. type_of_steps (and_then o (λ s. step_then (step.Send (record { member = m.member.number; condition = None; word = b.expr.core; shape = s.shape })) (rest s.place)))) k
-            ∙ one_step (step.Send (record { member = m.member.number; condition = None; word = b.expr.core; shape = s.shape })) (rest s.place);
+            ap (λ o. type_of_steps (and_then o (λ m. and_then (of_type m.word (lower_expression x scope)) (λ word. lower_send m None word binds rest scope)))) m.is
+            ∙ ap (λ o. type_of_steps (and_then o (λ word. lower_send m.member None word binds rest scope))) of
+            ∙ ap (λ o. type_of_steps (and_then o (λ s. step_then (step.Send (record { member = m.member.number; condition = None; word = b.expr.core; shape = s.shape })) (rest s.scope)))) k
+            ∙ one_step (step.Send (record { member = m.member.number; condition = None; word = b.expr.core; shape = s.shape })) (rest s.scope);
       })
 
   pub receiving_if_there : (span : Span) (e t c p x : Expr)
       → IsWellTypedPart (reaching context.known here) (receiving_if span context (expr_pair t ∷ expr_pair c ∷ expr_pair p ∷ expr_pair x ∷ []))
-      → ActThere (types_at context) outer ends place e (at_channel c (λ name. TakesWordIf name p x)) (receiving_if span context (expr_pair t ∷ expr_pair c ∷ expr_pair p ∷ expr_pair x ∷ []))
+      → ActThere (types_at context) outer ends scope e (at_channel c (λ name. TakesWordIf name p x)) (receiving_if span context (expr_pair t ∷ expr_pair c ∷ expr_pair p ∷ expr_pair x ∷ []))
   receiving_if_there span e t c p x well_typed =
       let channel = channel_seen context (expr_pair c) in
       let test = alone context (expr_pair p) in
@@ -231,21 +231,21 @@ module _ (here : Instance → Bool) (context : TypeEnv) (env : Env) (outer place
       let a = value_there p f.0 r.0 in
       let b = value_there x (none_in value.faults [] f.1).0 (all_in here value.reached [] r.1).0 in
       let of = word_there x m.member m.declared b (word_of channel) word (none_in bool wrong q.more).1 in
-      subst (λ a. ActThere (types_at context) outer ends place e a (receiving_if span context (expr_pair t ∷ expr_pair c ∷ expr_pair p ∷ expr_pair x ∷ []))) (sym (member_there c ch (λ name. TakesWordIf name p x)))
+      subst (λ a. ActThere (types_at context) outer ends scope e a (receiving_if span context (expr_pair t ∷ expr_pair c ∷ expr_pair p ∷ expr_pair x ∷ []))) (sym (member_there c ch (λ name. TakesWordIf name p x)))
       (record {
         own = received m.member.word;
         typed = q.ty ∙ (λ i. and_then (tok.1 i) (λ u. when_all (a.typed i ∷ b.typed i ∷ []) (and_then (word i) (λ w. Some (received w)))));
         declared = received_declared (types_at context) m.member.word m.declared;
         steps = λ binds rest s k.
-            ap (λ o. type_of_steps (and_then o (λ m. with_both (lower_expression p place) (of_type m.word (lower_expression x place)) (λ p other. lower_receive m (Some (p, other)) binds rest place)))) m.is
-            ∙ (λ i. type_of_steps (with_both (a.is i) (of i) (λ p other. lower_receive m.member (Some (p, other)) binds rest place)))
-            ∙ ap (λ o. type_of_steps (and_then o (λ s. step_then (step.Receive (record { member = m.member.number; word = plain_type m.member.word; condition = Some (a.expr.core, b.expr.core); shape = s.shape })) (rest s.place)))) k
-            ∙ one_step (step.Receive (record { member = m.member.number; word = plain_type m.member.word; condition = Some (a.expr.core, b.expr.core); shape = s.shape })) (rest s.place);
+            ap (λ o. type_of_steps (and_then o (λ m. with_both (lower_expression p scope) (of_type m.word (lower_expression x scope)) (λ p other. lower_receive m (Some (p, other)) binds rest scope)))) m.is
+            ∙ (λ i. type_of_steps (with_both (a.is i) (of i) (λ p other. lower_receive m.member (Some (p, other)) binds rest scope)))
+            ∙ ap (λ o. type_of_steps (and_then o (λ s. step_then (step.Receive (record { member = m.member.number; word = plain_type m.member.word; condition = Some (a.expr.core, b.expr.core); shape = s.shape })) (rest s.scope)))) k
+            ∙ one_step (step.Receive (record { member = m.member.number; word = plain_type m.member.word; condition = Some (a.expr.core, b.expr.core); shape = s.shape })) (rest s.scope);
       })
 
   pub sending_if_there : (span : Span) (e t c p x : Expr)
       → IsWellTypedPart (reaching context.known here) (sending_if span context (expr_pair t ∷ expr_pair c ∷ expr_pair p ∷ expr_pair x ∷ []))
-      → ActThere (types_at context) outer ends place e (at_channel c (λ name. SendsWordIf name p x)) (sending_if span context (expr_pair t ∷ expr_pair c ∷ expr_pair p ∷ expr_pair x ∷ []))
+      → ActThere (types_at context) outer ends scope e (at_channel c (λ name. SendsWordIf name p x)) (sending_if span context (expr_pair t ∷ expr_pair c ∷ expr_pair p ∷ expr_pair x ∷ []))
   sending_if_there span e t c p x well_typed =
       let channel = channel_seen context (expr_pair c) in
       let test = alone context (expr_pair p) in
@@ -262,14 +262,14 @@ module _ (here : Instance → Bool) (context : TypeEnv) (env : Env) (outer place
       let a = value_there p f.0 r.0 in
       let b = value_there x (none_in value.faults [] f.1).0 (all_in here value.reached [] r.1).0 in
       let of = word_there x m.member m.declared b (word_of channel) word (none_in bool wrong q.more).1 in
-      subst (λ a. ActThere (types_at context) outer ends place e a (sending_if span context (expr_pair t ∷ expr_pair c ∷ expr_pair p ∷ expr_pair x ∷ []))) (sym (member_there c ch (λ name. SendsWordIf name p x)))
+      subst (λ a. ActThere (types_at context) outer ends scope e a (sending_if span context (expr_pair t ∷ expr_pair c ∷ expr_pair p ∷ expr_pair x ∷ []))) (sym (member_there c ch (λ name. SendsWordIf name p x)))
       (record {
         own = ty.Token;
         typed = q.ty ∙ (λ i. and_then (tok.1 i) (λ u. when_all (a.typed i ∷ b.typed i ∷ []) (and_then (word i) (λ w. Some ty.Token))));
         declared = token_declared (types_at context);
         steps = λ binds rest s k.
-            ap (λ o. type_of_steps (and_then o (λ m. with_both (lower_expression p place) (of_type m.word (lower_expression x place)) (λ p word. lower_send m (Some p) word binds rest place)))) m.is
-            ∙ (λ i. type_of_steps (with_both (a.is i) (of i) (λ p word. lower_send m.member (Some p) word binds rest place)))
-            ∙ ap (λ o. type_of_steps (and_then o (λ s. step_then (step.Send (record { member = m.member.number; condition = Some a.expr.core; word = b.expr.core; shape = s.shape })) (rest s.place)))) k
-            ∙ one_step (step.Send (record { member = m.member.number; condition = Some a.expr.core; word = b.expr.core; shape = s.shape })) (rest s.place);
+            ap (λ o. type_of_steps (and_then o (λ m. with_both (lower_expression p scope) (of_type m.word (lower_expression x scope)) (λ p word. lower_send m (Some p) word binds rest scope)))) m.is
+            ∙ (λ i. type_of_steps (with_both (a.is i) (of i) (λ p word. lower_send m.member (Some p) word binds rest scope)))
+            ∙ ap (λ o. type_of_steps (and_then o (λ s. step_then (step.Send (record { member = m.member.number; condition = Some a.expr.core; word = b.expr.core; shape = s.shape })) (rest s.scope)))) k
+            ∙ one_step (step.Send (record { member = m.member.number; condition = Some a.expr.core; word = b.expr.core; shape = s.shape })) (rest s.scope);
       })

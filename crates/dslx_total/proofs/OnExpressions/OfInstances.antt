@@ -79,22 +79,22 @@ parametric_args_are_well_typed_there known complete owner before so_far (p ∷ p
 -- ---- arguments
 
 -- the arguments, each behind those before it
-record ArgumentsExist (here : Instance → Bool) (context : TypeEnv) (fs : List Field) (locals : List Typed) (core : BodyEnv) (place : CoreScope) : Type 0 where
+record ArgumentsExist (here : Instance → Bool) (context : TypeEnv) (fs : List Field) (locals : List Typed) (core : BodyEnv) (scope : CoreScope) : Type 0 where
   types : List DslxType
   are : map (λ (f : Field). lower_type_of_text f.ty (outer_scope core)) fs ≡ map Some types
   typing : map (λ (f : Field). (typing_of_inner context f.ty).ty) fs ≡ map Some types
   inner : list_all (λ t. not (is_unit t)) types ≡ true
   behind : CoreScope
-  elaborated : arguments_in_scope fs types place ≡ Some behind
+  elaborated : arguments_in_scope fs types scope ≡ Some behind
   stands : ScopeMatchesEnv here (with_typed context (arguments_typed context locals fs)) behind
   env : Env
   typed : IsWellTypedEnv (with_typed context (arguments_typed context locals fs)) env
 
 arguments_stand : (here : Instance → Bool) (context : TypeEnv) (outer : Env) (core : BodyEnv) → IsWellTypedEnv context outer → ScopeMatchesEnv here context (outer_scope core) → (before : List (List ℕ)) (fs : List Field)
     → (arguments_found context before fs).faults ≡ [] → list_all here (arguments_found context before fs).reached ≡ true
-    → (locals : List Typed) (env : Env) (place : CoreScope) → IsWellTypedEnv (with_typed context locals) env → ScopeMatchesEnv here (with_typed context locals) place → ArgumentsExist here context fs locals core place
-arguments_stand here context outer core ho ao before [] f r locals env place h at = record { types = []; are = refl; typing = refl; inner = refl; behind = place; elaborated = refl; stands = at; env = env; typed = h }
-arguments_stand here context outer core ho ao before (g ∷ fs) f r locals env place h at =
+    → (locals : List Typed) (env : Env) (scope : CoreScope) → IsWellTypedEnv (with_typed context locals) env → ScopeMatchesEnv here (with_typed context locals) scope → ArgumentsExist here context fs locals core scope
+arguments_stand here context outer core ho ao before [] f r locals env scope h at = record { types = []; are = refl; typing = refl; inner = refl; behind = scope; elaborated = refl; stands = at; env = env; typed = h }
+arguments_stand here context outer core ho ao before (g ∷ fs) f r locals env scope h at =
     let listed = local_name context before g.name in
     let j = typing_of_inner context g.ty in
     let rest = arguments_found context (g.name.name ∷ before) fs in
@@ -109,15 +109,15 @@ arguments_stand here context outer core ho ao before (g ∷ fs) f r locals env p
     let v = some_value (types_at context) ho.known.parts t.ty t.declared in
     let local : Typed = record { name = g.name.name; ty = j.ty } in
     let h' = subst (λ o. IsWellTypedEnv (with_typed context (record { name = g.name.name; ty = o } ∷ locals)) (bind g.name.name v.0 env)) (sym t.typed) (bound_keeps context locals env g.name.name t.ty v.0 h v.1 plain) in
-    let at' = subst (λ o. ScopeMatchesEnv here (with_typed context (record { name = g.name.name; ty = o } ∷ locals)) (with_local g.name.name t.ty place)) (sym t.typed) (local_beside here context locals place g.name.name t.ty at) in
-    let more = arguments_stand here context outer core ho ao (g.name.name ∷ before) fs b.1 k.1 (local ∷ locals) (bind g.name.name v.0 env) (with_local g.name.name t.ty place) h' at' in
+    let at' = subst (λ o. ScopeMatchesEnv here (with_typed context (record { name = g.name.name; ty = o } ∷ locals)) (with_local g.name.name t.ty scope)) (sym t.typed) (local_beside here context locals scope g.name.name t.ty at) in
+    let more = arguments_stand here context outer core ho ao (g.name.name ∷ before) fs b.1 k.1 (local ∷ locals) (bind g.name.name v.0 env) (with_local g.name.name t.ty scope) h' at' in
     record {
       types = t.ty ∷ more.types;
       are = λ i. t.is i ∷ more.are i;
       typing = λ i. t.typed i ∷ more.typing i;
       inner = λ i. not (not_unit i) && more.inner i;
       behind = more.behind;
-      elaborated = ap (λ b. if b then None else arguments_in_scope fs more.types (with_local g.name.name t.ty place)) (ap (λ (items : Meanings). items.is_constant g.name.name) at.items ∙ plain) ∙ more.elaborated;
+      elaborated = ap (λ b. if b then None else arguments_in_scope fs more.types (with_local g.name.name t.ty scope)) (ap (λ (items : Meanings). items.is_constant g.name.name) at.items ∙ plain) ∙ more.elaborated;
       stands = more.stands;
       env = more.env;
       typed = more.typed;
@@ -130,11 +130,11 @@ record ResultThere (types : Declarations) (j : Judgement) : Type 0 where
   typed : j.ty ≡ Some ty
   declared : IsDeclared types ty
 
-result_there : (here : Instance → Bool) (context : TypeEnv) (env : Env) (place : CoreScope) → IsWellTypedEnv context env → ScopeMatchesEnv here context place → (o : Option TypeExpr)
+result_there : (here : Instance → Bool) (context : TypeEnv) (env : Env) (scope : CoreScope) → IsWellTypedEnv context env → ScopeMatchesEnv here context scope → (o : Option TypeExpr)
     → IsWellTypedPart (reaching context.known here) (result_typing context o) → ResultThere (types_at context) (result_typing context o)
-result_there here context env place h at None well_typed = record { ty = unit_type; typed = refl; declared = tuple_declared (types_at context) [] tt }
-result_there here context env place h at (Some t) well_typed =
-    let k = (type_has_den t).known context env h (well_typed_there here context place (result_typing context (Some t)) at well_typed) in
+result_there here context env scope h at None well_typed = record { ty = unit_type; typed = refl; declared = tuple_declared (types_at context) [] tt }
+result_there here context env scope h at (Some t) well_typed =
+    let k = (type_has_den t).known context env h (well_typed_there here context scope (result_typing context (Some t)) at well_typed) in
     record { ty = k.0; typed = k.1; declared = ((type_has_den t).means context env h k.0 k.1).1 }
 
 -- ---- the instance
@@ -171,7 +171,7 @@ instance_is_lowered here known f parametric_args core own h at clean =
       function = function;
       is = ap (λ b. where_true b (and_then (argument_types core f.arguments) (lower_function_body core f))) stand
           ∙ ap (λ o. and_then o (lower_function_body core f)) (ap all_some args.are ∙ all_are args.types)
-          ∙ ap (λ o. and_then o (λ place. and_then (lower_block_of_text f.body place) (λ e. Some (record { arguments = args.types; result = e.ty; body = e.core })))) args.elaborated
+          ∙ ap (λ o. and_then o (λ scope. and_then (lower_block_of_text f.body scope) (λ e. Some (record { arguments = args.types; result = e.ty; body = e.core })))) args.elaborated
           ∙ ap (λ o. and_then o (λ e. Some (record { arguments = args.types; result = e.ty; body = e.core }))) e.is;
       arguments = args.typing;
       inner = args.inner;

@@ -86,31 +86,31 @@ few_turns at n e = by_test (nat_lt 1024 n) refl e
 -- ---- turns
 
 -- what the patterns of a loop become, and its body behind them
-record TurnLowersTo (context : TypeEnv) (index acc : PatternPair) (block : BlockPair) (k t : DslxType) (il al : PatternLowering) (bl : ExprLowering) (place : CoreScope) : Type 0 where
+record TurnLowersTo (context : TypeEnv) (index acc : PatternPair) (block : BlockPair) (k t : DslxType) (il al : PatternLowering) (bl : ExprLowering) (scope : CoreScope) : Type 0 where
   first : LoweredShape
-  first_is : lower_in_scope il place k ≡ Some first
+  first_is : lower_in_scope il scope k ≡ Some first
   second : LoweredShape
-  second_is : lower_in_scope al first.place t ≡ Some second
+  second_is : lower_in_scope al first.scope t ≡ Some second
   body : LoweredExpr
-  body_is : bl second.place ≡ Some body
+  body_is : bl second.scope ≡ Some body
   typed : (body_seen context index acc block (Some k) (Some t)).ty ≡ Some body.ty
   declared : IsDeclared (types_at context) body.ty
 
-turn_lowers_to : (here : Instance → Bool) (context : TypeEnv) (env : Env) (place : CoreScope) → IsWellTypedEnv context env → ScopeMatchesEnv here context place
+turn_lowers_to : (here : Instance → Bool) (context : TypeEnv) (env : Env) (scope : CoreScope) → IsWellTypedEnv context env → ScopeMatchesEnv here context scope
     → (index acc : PatternPair) (il al : PatternLowering) (im am : PatternDen) (body : BlockPair) (bl : ExprLowering) → PatternLowers index.1 il → PatternLowers acc.1 al → PatternGives index.1 im → PatternGives acc.1 am → BlockLowers body.1 bl
     → (k t : DslxType) (v a : DslxValue) → GivesOf (types_at context) k (Some v) → GivesOf (types_at context) t (Some a)
     → IsClean here (index_seen context index (Some k)).faults (index_seen context index (Some k)).reached
     → IsClean here (acc_seen context index acc (Some k) (Some t)).faults (acc_seen context index acc (Some k) (Some t)).reached
     → IsClean here (body_seen context index acc body (Some k) (Some t)).faults (body_seen context index acc body (Some k) (Some t)).reached
-    → TurnLowersTo context index acc body k t il al bl place
-turn_lowers_to here context env place h at index acc il al im am body bl pi pa gi ga sb k t v a gk gt ci cp cb =
+    → TurnLowersTo context index acc body k t il al bl scope
+turn_lowers_to here context env scope h at index acc il al im am body bl pi pa gi ga sb k t v a gk gt ci cp cb =
     let i = index_seen context index (Some k) in
     let inner = with_typed context i.locals in
-    let first = pi.lowers here false context k [] context.locals env place place h at at gk.declared ci in
+    let first = pi.lowers here false context k [] context.locals env scope scope h at at gk.declared ci in
     let behind_index = gi.behind false context k [] context.locals env v h gk (ap has_broken ci.faults) in
-    let second = pa.lowers here false inner t [] inner.locals behind_index.0 first.shape.place first.shape.place behind_index.1 first.behind first.behind gt.declared cp in
+    let second = pa.lowers here false inner t [] inner.locals behind_index.0 first.shape.scope first.shape.scope behind_index.1 first.behind first.behind gt.declared cp in
     let behind_acc = ga.behind false inner t [] inner.locals behind_index.0 a behind_index.1 gt (ap has_broken cp.faults) in
-    let b = block_lowers_to here (with_typed context (acc_seen context index acc (Some k) (Some t)).locals) behind_acc.0 second.shape.place body.1 bl sb behind_acc.1 second.behind (record { faults = cb.faults; reached = cb.reached }) in
+    let b = block_lowers_to here (with_typed context (acc_seen context index acc (Some k) (Some t)).locals) behind_acc.0 second.shape.scope body.1 bl sb behind_acc.1 second.behind (record { faults = cb.faults; reached = cb.reached }) in
     record {
       first = first.shape;
       first_is = first.is;
@@ -124,36 +124,36 @@ turn_lowers_to here context env place h at index acc il al im am body bl pi pa g
 
 -- ---- loops
 
-loop_typed : (start index : LoweredExpr) (a b : SignedWord) (il al : PatternLowering) (bl : ExprLowering) (place : CoreScope) (first second : LoweredShape) (body : LoweredExpr) → lower_in_scope il place index.ty ≡ Some first
-    → lower_in_scope al first.place start.ty ≡ Some second → bl second.place ≡ Some body → (equal_type start.ty body.ty && nat_lt (turn_count a b) (2 ^ 64)) ≡ true
-    → type_of_lowered (lower_loop (Some start) (Some index) (Some a) (Some b) il al bl place) ≡ Some start.ty
-loop_typed start index a b il al bl place first second body f g k e =
-    ap (λ o. type_of_lowered (and_then o (λ i. and_then (lower_in_scope al i.place start.ty) (λ acc. and_then (bl acc.place) (λ body. where_true (equal_type start.ty body.ty && nat_lt (turn_count a b) (2 ^ 64))
+loop_typed : (start index : LoweredExpr) (a b : SignedWord) (il al : PatternLowering) (bl : ExprLowering) (scope : CoreScope) (first second : LoweredShape) (body : LoweredExpr) → lower_in_scope il scope index.ty ≡ Some first
+    → lower_in_scope al first.scope start.ty ≡ Some second → bl second.scope ≡ Some body → (equal_type start.ty body.ty && nat_lt (turn_count a b) (2 ^ 64)) ≡ true
+    → type_of_lowered (lower_loop (Some start) (Some index) (Some a) (Some b) il al bl scope) ≡ Some start.ty
+loop_typed start index a b il al bl scope first second body f g k e =
+    ap (λ o. type_of_lowered (and_then o (λ i. and_then (lower_in_scope al i.scope start.ty) (λ acc. and_then (bl acc.scope) (λ body. where_true (equal_type start.ty body.ty && nat_lt (turn_count a b) (2 ^ 64))
     (lowered (core.Loop (turn_count a b) a.word i.shape acc.shape body.core start.core) start.ty)))))) f
-    ∙ ap (λ o. type_of_lowered (and_then o (λ acc. and_then (bl acc.place) (λ body. where_true (equal_type start.ty body.ty && nat_lt (turn_count a b) (2 ^ 64))
+    ∙ ap (λ o. type_of_lowered (and_then o (λ acc. and_then (bl acc.scope) (λ body. where_true (equal_type start.ty body.ty && nat_lt (turn_count a b) (2 ^ 64))
     (lowered (core.Loop (turn_count a b) a.word first.shape acc.shape body.core start.core) start.ty))))) g
     ∙ ap (λ o. type_of_lowered (and_then o (λ body. where_true (equal_type start.ty body.ty && nat_lt (turn_count a b) (2 ^ 64))
     (lowered (core.Loop (turn_count a b) a.word first.shape second.shape body.core start.core) start.ty)))) k
     ∙ ap (λ t. type_of_lowered (where_true t (lowered (core.Loop (turn_count a b) a.word first.shape second.shape body.core start.core) start.ty))) e
 
 -- an annotation, if there is one, has a type
-annotation_there : (here : Instance → Bool) (context : TypeEnv) (env : Env) (place : CoreScope) → IsWellTypedEnv context env → ScopeMatchesEnv here context place → (span : Span) (written : Option TypePair) (g : Option TypeDen) → TypeHasDenIf written g
+annotation_there : (here : Instance → Bool) (context : TypeEnv) (env : Env) (scope : CoreScope) → IsWellTypedEnv context env → ScopeMatchesEnv here context scope → (span : Span) (written : Option TypePair) (g : Option TypeDen) → TypeHasDenIf written g
     → (index acc : Option DslxType) (t : DslxType) → acc ≡ Some t → loop_annotation span (written_typing context written) index acc ≡ [] → list_all here (annotation_reached (written_typing context written)) ≡ true
     → (u : DslxType) × (annotated_type (written_typing context written) acc ≡ Some u)
-annotation_there here context env place h at span None None k index acc t own e r = (t, own)
-annotation_there here context env place h at span None (Some g) k index acc t own e r = absurd k
-annotation_there here context env place h at span (Some p) None k index acc t own e r = absurd k
-annotation_there here context env place h at span (Some p) (Some g) k index acc t own e r =
+annotation_there here context env scope h at span None None k index acc t own e r = (t, own)
+annotation_there here context env scope h at span None (Some g) k index acc t own e r = absurd k
+annotation_there here context env scope h at span (Some p) None k index acc t own e r = absurd k
+annotation_there here context env scope h at span (Some p) (Some g) k index acc t own e r =
     let j = p.1 context in
     let faults = (none_in j.faults (wanted_faults span j.ty (with_both index acc (λ i a. Some (ty.Tuple (i ∷ a ∷ []))))) e).0 in
-    k.known context env h (well_typed_there here context place j at (record { faults = faults; reached = r }))
+    k.known context env h (well_typed_there here context scope j at (record { faults = faults; reached = r }))
 
 pub lower_total_loop : (span body_span : Span) (from to start : ExprPair) (x y z : ExprLowering) (written : Option TypePair) (g : Option TypeDen) (index acc : PatternPair) (il al : PatternLowering) (im am : PatternDen) (body : BlockPair) (bl : ExprLowering)
     → ExprLowers from x → ExprLowers to y → ExprLowers start z → TypeHasDenIf written g → PatternLowers index.1 il → PatternLowers acc.1 al → PatternGives index.1 im → PatternGives acc.1 am → BlockLowers body.1 bl
     → PartLowers
     (λ context. loop_with span body_span (loop_at context from to start written index acc body (same_ends (constant_of context from).judgement.ty (constant_of context to).judgement.ty)))
-    (λ place. lower_loop (z place) (x place) (and_then (constant_at place from.0) bits_of) (and_then (constant_at place to.0) bits_of) il al bl place)
-lower_total_loop span body_span from to start x y z written g index acc il al im am body bl sx sy sz st pi pa gi ga' sb here context env place h at well_typed =
+    (λ scope. lower_loop (z scope) (x scope) (and_then (constant_at scope from.0) bits_of) (and_then (constant_at scope to.0) bits_of) il al bl scope)
+lower_total_loop span body_span from to start x y z written g index acc il al im am body bl sx sy sz st pi pa gi ga' sb here context env scope h at well_typed =
     let c = constant_of context from in
     let d = constant_of context to in
     let a = alone context start in
@@ -183,14 +183,14 @@ lower_total_loop span body_span from to start x y z written g index acc il al im
     let n = all_in_three here c.judgement.reached d.judgement.reached a.reached m.0 in
     let fc : IsWellTypedPart (reaching context.known here) c.judgement = record { faults = f.0; reached = n.0 } in
     let fd : IsWellTypedPart (reaching context.known here) d.judgement = record { faults = f.1; reached = n.1 } in
-    let gc = constant_has context env from sx.meaning sx.gives h (well_typed_there here context place c.judgement at fc) in
-    let gd = constant_has context env to sy.meaning sy.gives h (well_typed_there here context place d.judgement at fd) in
+    let gc = constant_has context env from sx.meaning sx.gives h (well_typed_there here context scope c.judgement at fc) in
+    let gd = constant_has context env to sy.meaning sy.gives h (well_typed_there here context scope d.judgement at fd) in
     let local = breaks_if (names_a_local context from) 5 (span_of from) in
     let first = alone context from in
     let alone_faults = (none_in_three first.faults local (size_faults context.known (span_of from).to (record first { faults = first.faults ++ local })) f.0).0 in
-    let gx = alone_lowers_to here context env place from x sx h at alone_faults n.0 in
-    let gz = alone_lowers_to here context env place start z sz h at f.2 n.2 in
-    let annotated = annotation_there here context env place h at span written g st ends a.ty gz.expr.ty gz.typed r.1 m.1 in
+    let gx = alone_lowers_to here context env scope from x sx h at alone_faults n.0 in
+    let gz = alone_lowers_to here context env scope start z sz h at f.2 n.2 in
+    let annotated = annotation_there here context env scope h at span written g st ends a.ty gz.expr.ty gz.typed r.1 m.1 in
     let index_type = gx.expr.ty in
     let from_typed : c.judgement.ty ≡ Some index_type = ap (λ o. and_then o (λ v. first.ty)) gc.known ∙ gx.typed in
     let acc_type = gz.expr.ty in
@@ -211,15 +211,15 @@ lower_total_loop span body_span from to start x y z written g index acc il al im
     let seen_index = ap (index_seen context index) alike in
     let seen_acc : p ≡ acc_seen context index acc (Some index_type) (Some acc_type) = λ e. acc_seen context index acc (alike e) (gz.typed e) in
     let seen_body : b ≡ body_seen context index acc body (Some index_type) (Some acc_type) = λ e. body_seen context index acc body (alike e) (gz.typed e) in
-    let turn = turn_lowers_to here context env place h at index acc il al im am body bl pi pa gi ga' sb index_type acc_type gc.gives.value gz.value first_value gz.given
+    let turn = turn_lowers_to here context env scope h at index acc il al im am body bl pi pa gi ga' sb index_type acc_type gc.gives.value gz.value first_value gz.given
     (record { faults = ap (λ (s : PatternSeen). s.faults) (sym seen_index) ∙ v.1; reached = ap (λ (s : PatternSeen). list_all here s.reached) (sym seen_index) ∙ l.1 })
     (record { faults = ap (λ (s : PatternSeen). s.faults) (sym seen_acc) ∙ v.2; reached = ap (λ (s : PatternSeen). list_all here s.reached) (sym seen_acc) ∙ l.2 })
     (record { faults = ap (λ (j : Judgement). j.faults) (sym seen_body) ∙ u.1; reached = ap (λ (j : Judgement). list_all here j.reached) (sym seen_body) ∙ k.1 }) in
     let body_typed : b.ty ≡ Some turn.body.ty = ap (λ (j : Judgement). j.ty) seen_body ∙ turn.typed in
     let like = passed (same_type acc_type turn.body.ty) 9 body_span ((λ e. wanted_faults body_span (sym gz.typed e) (sym body_typed e)) ∙ q.1) in
     let same = equal_of_text (types_at context) acc_type turn.body.ty like gz.declared turn.declared in
-    let from_there = ap (λ o. and_then o bits_of) (constant_there here context env place from sx.meaning sx.gives h at fc gc.gives.value gc.known) ∙ low.is in
-    let to_there = ap (λ o. and_then o bits_of) (constant_there here context env place to sy.meaning sy.gives h at fd gd.gives.value gd.known) ∙ high.is in
-    (λ e. type_of_lowered (lower_loop (gz.is e) (gx.is e) (from_there e) (to_there e) il al bl place))
-    ∙ loop_typed gz.expr gx.expr from_word to_word il al bl place turn.first turn.second turn.body turn.first_is turn.second_is turn.body_is (λ e. same e && few e)
+    let from_there = ap (λ o. and_then o bits_of) (constant_there here context env scope from sx.meaning sx.gives h at fc gc.gives.value gc.known) ∙ low.is in
+    let to_there = ap (λ o. and_then o bits_of) (constant_there here context env scope to sy.meaning sy.gives h at fd gd.gives.value gd.known) ∙ high.is in
+    (λ e. type_of_lowered (lower_loop (gz.is e) (gx.is e) (from_there e) (to_there e) il al bl scope))
+    ∙ loop_typed gz.expr gx.expr from_word to_word il al bl scope turn.first turn.second turn.body turn.first_is turn.second_is turn.body_is (λ e. same e && few e)
     ∙ sym (λ e. and_then (alike e) (λ i. and_then (body_typed e) (λ t. and_then (annotated.1 e) (λ u. gz.typed e)))) ∙ sym s.ty

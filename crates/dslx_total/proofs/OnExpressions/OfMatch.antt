@@ -62,15 +62,15 @@ one_clean here context t p ps clean =
     let r = all_in here first.reached rest.reached clean.reached in
     (record { faults = q.0; reached = r.0 }, record { faults = q.1; reached = r.1 })
 
-alternatives_known : (here : Instance → Bool) (context : TypeEnv) (env : Env) (place : CoreScope) → IsWellTypedEnv context env → ScopeMatchesEnv here context place → (t : Option DslxType) (ps : List PatternPair) (ms : List PatternDen)
+alternatives_known : (here : Instance → Bool) (context : TypeEnv) (env : Env) (scope : CoreScope) → IsWellTypedEnv context env → ScopeMatchesEnv here context scope → (t : Option DslxType) (ps : List PatternPair) (ms : List PatternDen)
     → EachPatternGives ps ms → IsClean here (alternatives_seen context t ps).faults (alternatives_seen context t ps).reached → (alternatives_seen context t ps).is_known ≡ true
-alternatives_known here context env place h at t [] ms k clean = refl
-alternatives_known here context env place h at t (p ∷ ps) [] k clean = absurd k
-alternatives_known here context env place h at t (p ∷ ps) (m ∷ ms) k clean =
+alternatives_known here context env scope h at t [] ms k clean = refl
+alternatives_known here context env scope h at t (p ∷ ps) [] k clean = absurd k
+alternatives_known here context env scope h at t (p ∷ ps) (m ∷ ms) k clean =
     let q = one_clean here context t p ps clean in
     let first = one_alternative context t p (alternatives_seen context t ps) in
     let well_typed : IsWellTypedPattern context first = record { faults = q.0.faults; reached = all_sound here context.known.is_sound at.sound first.reached q.0.reached } in
-    λ i. k.0.known true context t [] (alternatives_seen context t ps).locals env h well_typed i && alternatives_known here context env place h at t ps ms k.1 q.1 i
+    λ i. k.0.known true context t [] (alternatives_seen context t ps).locals env h well_typed i && alternatives_known here context env scope h at t ps ms k.1 q.1 i
 
 -- none of them binds a name
 none_binds : (context : TypeEnv) (t : Option DslxType) (ps : List PatternPair) (ls : List PatternLowering) → EachPatternLowers ps ls → (alternatives_seen context t ps).binds ≡ false
@@ -93,19 +93,19 @@ plain_locals context t (p ∷ ps) (l ∷ ls) k e =
     k.0.plain true context t [] (alternatives_seen context t ps).locals q.0 ∙ plain_locals context t ps ls k.1 q.1
 
 -- where none of them does, each becomes a shape
-alternatives_there : (here : Instance → Bool) (context : TypeEnv) (env : Env) (place : CoreScope) → IsWellTypedEnv context env → ScopeMatchesEnv here context place → (t : DslxType) → IsDeclared (types_at context) t
+alternatives_there : (here : Instance → Bool) (context : TypeEnv) (env : Env) (scope : CoreScope) → IsWellTypedEnv context env → ScopeMatchesEnv here context scope → (t : DslxType) → IsDeclared (types_at context) t
     → (ps : List PatternPair) (ls : List PatternLowering) → EachPatternLowers ps ls → IsClean here (alternatives_seen context (Some t) ps).faults (alternatives_seen context (Some t) ps).reached
-    → list_all context.known.items.is_constant (names_of_all ls) ≡ true → (ss : List Shape) × (alternatives_shaped ls place t ≡ Some ss)
-alternatives_there here context env place h at t d [] [] k clean plain = ([], refl)
-alternatives_there here context env place h at t d [] (l ∷ ls) k clean plain = absurd k
-alternatives_there here context env place h at t d (p ∷ ps) [] k clean plain = absurd k
-alternatives_there here context env place h at t d (p ∷ ps) (l ∷ ls) k clean plain =
+    → list_all context.known.items.is_constant (names_of_all ls) ≡ true → (ss : List Shape) × (alternatives_shaped ls scope t ≡ Some ss)
+alternatives_there here context env scope h at t d [] [] k clean plain = ([], refl)
+alternatives_there here context env scope h at t d [] (l ∷ ls) k clean plain = absurd k
+alternatives_there here context env scope h at t d (p ∷ ps) [] k clean plain = absurd k
+alternatives_there here context env scope h at t d (p ∷ ps) (l ∷ ls) k clean plain =
     let q = one_clean here context (Some t) p ps clean in
     let rest = (all_in context.known.items.is_constant l.names (names_of_all ls) plain).1 in
     let locals = (alternatives_seen context (Some t) ps).locals in
-    let inner = subst (λ xs. ScopeMatchesEnv here (with_typed context xs) place) (sym (plain_locals context (Some t) ps ls k.1 rest)) at in
-    let one = k.0.lowers here true context t [] locals env place place h at inner d q.0 in
-    let more = alternatives_there here context env place h at t d ps ls k.1 q.1 rest in
+    let inner = subst (λ xs. ScopeMatchesEnv here (with_typed context xs) scope) (sym (plain_locals context (Some t) ps ls k.1 rest)) at in
+    let one = k.0.lowers here true context t [] locals env scope scope h at inner d q.0 in
+    let more = alternatives_there here context env scope h at t d ps ls k.1 q.1 rest in
     (one.shape.shape ∷ more.0, λ i. with_both (one.is i) (more.1 i) (λ s ss. Some (s.shape ∷ ss)))
 
 -- ---- an arm
@@ -117,61 +117,61 @@ record ArmLowersTo (types : Declarations) (j : Judgement) (o : Option LoweredArm
   declared : IsDeclared types arm.ty
 
 -- one pattern that binds names
-binding : (here : Instance → Bool) (context : TypeEnv) (env : Env) (place : CoreScope) → IsWellTypedEnv context env → ScopeMatchesEnv here context place → (t : DslxType) (v : DslxValue) → GivesOf (types_at context) t (Some v)
+binding : (here : Instance → Bool) (context : TypeEnv) (env : Env) (scope : CoreScope) → IsWellTypedEnv context env → ScopeMatchesEnv here context scope → (t : DslxType) (v : DslxValue) → GivesOf (types_at context) t (Some v)
     → (ps : List PatternPair) (ls : List PatternLowering) (ms : List PatternDen) (e : ExprPair) (value : ExprLowering) → EachPatternLowers ps ls → EachPatternGives ps ms → ExprLowers e value
     → IsClean here (alternatives_seen context (Some t) ps).faults (alternatives_seen context (Some t) ps).reached
     → (alone (with_typed context (alternatives_seen context (Some t) ps).locals) e).faults ≡ [] → list_all here (alone (with_typed context (alternatives_seen context (Some t) ps).locals) e).reached ≡ true
     → (has_several ps && (alternatives_seen context (Some t) ps).binds) ≡ false → list_all context.known.items.is_constant (names_of_all ls) ≡ false
-    → ArmLowersTo (types_at context) (alone (with_typed context (alternatives_seen context (Some t) ps).locals) e) (binding_arm ls value place t)
-binding here context env place h at t v g [] [] ms e value k m s clean faults reached binds some = absurd (true≢false some)
-binding here context env place h at t v g [] (l ∷ ls) ms e value k m s clean faults reached binds some = absurd k
-binding here context env place h at t v g (p ∷ ps) [] ms e value k m s clean faults reached binds some = absurd k
-binding here context env place h at t v g (p ∷ ps) (l ∷ ls) [] e value k m s clean faults reached binds some = absurd m
-binding here context env place h at t v g (p ∷ []) (l ∷ []) (x ∷ ms) e value k m s clean faults reached binds some =
+    → ArmLowersTo (types_at context) (alone (with_typed context (alternatives_seen context (Some t) ps).locals) e) (binding_arm ls value scope t)
+binding here context env scope h at t v g [] [] ms e value k m s clean faults reached binds some = absurd (true≢false some)
+binding here context env scope h at t v g [] (l ∷ ls) ms e value k m s clean faults reached binds some = absurd k
+binding here context env scope h at t v g (p ∷ ps) [] ms e value k m s clean faults reached binds some = absurd k
+binding here context env scope h at t v g (p ∷ ps) (l ∷ ls) [] e value k m s clean faults reached binds some = absurd m
+binding here context env scope h at t v g (p ∷ []) (l ∷ []) (x ∷ ms) e value k m s clean faults reached binds some =
     let q = (one_clean here context (Some t) p [] clean).0 in
-    let one = k.0.lowers here true context t [] context.locals env place place h at at g.declared q in
+    let one = k.0.lowers here true context t [] context.locals env scope scope h at at g.declared q in
     let inner = m.0.behind true context t [] context.locals env v h g (ap has_broken q.faults) in
-    let b = alone_lowers_to here (with_typed context (alternatives_seen context (Some t) (p ∷ [])).locals) inner.0 one.shape.place e value s inner.1 one.behind faults reached in
+    let b = alone_lowers_to here (with_typed context (alternatives_seen context (Some t) (p ∷ [])).locals) inner.0 one.shape.scope e value s inner.1 one.behind faults reached in
     record {
       arm = record { arm = roll-Arm (record { shapes = one.shape.shape ∷ []; value = b.expr.core }); ty = b.expr.ty };
-      is = ap (λ o. and_then o (λ s. and_then (value s.place) (arm_of (s.shape ∷ [])))) one.is ∙ ap (λ o. and_then o (arm_of (one.shape.shape ∷ []))) b.is;
+      is = ap (λ o. and_then o (λ s. and_then (value s.scope) (arm_of (s.shape ∷ [])))) one.is ∙ ap (λ o. and_then o (arm_of (one.shape.shape ∷ []))) b.is;
       typed = b.typed;
       declared = b.declared;
     }
-binding here context env place h at t v g (p ∷ []) (l ∷ k' ∷ ls) (x ∷ ms) e value k m s clean faults reached binds some = absurd k.1
-binding here context env place h at t v g (p ∷ p' ∷ ps) (l ∷ ls) (x ∷ ms) e value k m s clean faults reached binds some =
+binding here context env scope h at t v g (p ∷ []) (l ∷ k' ∷ ls) (x ∷ ms) e value k m s clean faults reached binds some = absurd k.1
+binding here context env scope h at t v g (p ∷ p' ∷ ps) (l ∷ ls) (x ∷ ms) e value k m s clean faults reached binds some =
     absurd (true≢false (sym (none_binds context (Some t) (p ∷ p' ∷ ps) (l ∷ ls) k binds) ∙ some))
 
-arm_lowers_to : (here : Instance → Bool) (context : TypeEnv) (env : Env) (place : CoreScope) → IsWellTypedEnv context env → ScopeMatchesEnv here context place → (t : DslxType) (v : DslxValue) → GivesOf (types_at context) t (Some v)
+arm_lowers_to : (here : Instance → Bool) (context : TypeEnv) (env : Env) (scope : CoreScope) → IsWellTypedEnv context env → ScopeMatchesEnv here context scope → (t : DslxType) (v : DslxValue) → GivesOf (types_at context) t (Some v)
     → (a : ArmSeen) (l : ArmLowering) → ArmLowers a l → (arm_typing context (Some t) a).seen.faults ≡ [] → (arm_typing context (Some t) a).value.faults ≡ []
     → list_all here (arm_typing context (Some t) a).seen.reached ≡ true → list_all here (arm_typing context (Some t) a).value.reached ≡ true
     → (has_several a.patterns && (arm_typing context (Some t) a).seen.binds) ≡ false
-    → ArmLowersTo (types_at context) (arm_typing context (Some t) a).value (lower_arm l place t)
-arm_lowers_to here context env place h at t v g a l k seen_faults faults seen_reached reached binds =
-    by_names (list_all place.known.items.is_constant (names_of_all l.patterns)) (ap (λ (items : Meanings). list_all items.is_constant (names_of_all l.patterns)) at.items) refl
+    → ArmLowersTo (types_at context) (arm_typing context (Some t) a).value (lower_arm l scope t)
+arm_lowers_to here context env scope h at t v g a l k seen_faults faults seen_reached reached binds =
+    by_names (list_all scope.known.items.is_constant (names_of_all l.patterns)) (ap (λ (items : Meanings). list_all items.is_constant (names_of_all l.patterns)) at.items) refl
   where
     seen : AlternativesSeen
     seen = alternatives_seen context (Some t) a.patterns
 
-    by_names : (b : Bool) → list_all place.known.items.is_constant (names_of_all l.patterns) ≡ list_all context.known.items.is_constant (names_of_all l.patterns)
-        → list_all place.known.items.is_constant (names_of_all l.patterns) ≡ b → ArmLowersTo (types_at context) (arm_typing context (Some t) a).value (lower_arm l place t)
+    by_names : (b : Bool) → list_all scope.known.items.is_constant (names_of_all l.patterns) ≡ list_all context.known.items.is_constant (names_of_all l.patterns)
+        → list_all scope.known.items.is_constant (names_of_all l.patterns) ≡ b → ArmLowersTo (types_at context) (arm_typing context (Some t) a).value (lower_arm l scope t)
     by_names true q r =
         let plain = plain_locals context (Some t) a.patterns l.patterns k.patterns (sym q ∙ r) in
-        let inner = subst (λ ls. ScopeMatchesEnv here (with_typed context ls) place) (sym plain) at in
+        let inner = subst (λ ls. ScopeMatchesEnv here (with_typed context ls) scope) (sym plain) at in
         let typed = subst (λ ls. IsWellTypedEnv (with_typed context ls) env) (sym plain) h in
-        let ss = alternatives_there here context env place h at t g.declared a.patterns l.patterns k.patterns (record { faults = seen_faults; reached = seen_reached }) (sym q ∙ r) in
-        let b = alone_lowers_to here (with_typed context seen.locals) env place a.value l.value k.value typed inner faults reached in
+        let ss = alternatives_there here context env scope h at t g.declared a.patterns l.patterns k.patterns (record { faults = seen_faults; reached = seen_reached }) (sym q ∙ r) in
+        let b = alone_lowers_to here (with_typed context seen.locals) env scope a.value l.value k.value typed inner faults reached in
         record {
           arm = record { arm = roll-Arm (record { shapes = ss.0; value = b.expr.core }); ty = b.expr.ty };
-          is = ap (λ c. if c then with_both (alternatives_shaped l.patterns place t) (l.value place) arm_of else binding_arm l.patterns l.value place t) r ∙ (λ i. with_both (ss.1 i) (b.is i) arm_of);
+          is = ap (λ c. if c then with_both (alternatives_shaped l.patterns scope t) (l.value scope) arm_of else binding_arm l.patterns l.value scope t) r ∙ (λ i. with_both (ss.1 i) (b.is i) arm_of);
           typed = b.typed;
           declared = b.declared;
         }
     by_names false q r =
-        let b = binding here context env place h at t v g a.patterns l.patterns k.meanings a.value l.value k.patterns k.give k.value (record { faults = seen_faults; reached = seen_reached }) faults reached binds (sym q ∙ r) in
+        let b = binding here context env scope h at t v g a.patterns l.patterns k.meanings a.value l.value k.patterns k.give k.value (record { faults = seen_faults; reached = seen_reached }) faults reached binds (sym q ∙ r) in
         record {
           arm = b.arm;
-          is = ap (λ c. if c then with_both (alternatives_shaped l.patterns place t) (l.value place) arm_of else binding_arm l.patterns l.value place t) r ∙ b.is;
+          is = ap (λ c. if c then with_both (alternatives_shaped l.patterns scope t) (l.value scope) arm_of else binding_arm l.patterns l.value scope t) r ∙ b.is;
           typed = b.typed;
           declared = b.declared;
         }
@@ -189,28 +189,28 @@ record ArmsBecome (context : TypeEnv) (t : DslxType) (arms : List ArmSeen) (os :
   known : all_known (map (arm_typing context (Some t)) arms) ≡ true
 
 abbrev arms_at : CoreScope → DslxType → List ArmLowering → List (Option LoweredArm)
-arms_at place t ls = map (λ (a : ArmLowering). lower_arm a place t) ls
+arms_at scope t ls = map (λ (a : ArmLowering). lower_arm a scope t) ls
 
-arms_become : (here : Instance → Bool) (context : TypeEnv) (env : Env) (place : CoreScope) → IsWellTypedEnv context env → ScopeMatchesEnv here context place → (t : DslxType) (v : DslxValue) → GivesOf (types_at context) t (Some v)
+arms_become : (here : Instance → Bool) (context : TypeEnv) (env : Env) (scope : CoreScope) → IsWellTypedEnv context env → ScopeMatchesEnv here context scope → (t : DslxType) (v : DslxValue) → GivesOf (types_at context) t (Some v)
     → (arms : List ArmSeen) (ls : List ArmLowering) → EachArmLowers arms ls → arms_faults (map (arm_typing context (Some t)) arms) ≡ [] → list_all here (arms_reached (map (arm_typing context (Some t)) arms)) ≡ true
-    → some_binds (map (arm_typing context (Some t)) arms) ≡ false → ArmsBecome context t arms (arms_at place t ls)
-arms_become here context env place h at t v g [] [] k f r b = record { all = []; are = refl; typed = refl; declared = tt; known = refl }
-arms_become here context env place h at t v g [] (l ∷ ls) k f r b = absurd k
-arms_become here context env place h at t v g (a ∷ arms) [] k f r b = absurd k
-arms_become here context env place h at t v g (a ∷ arms) (l ∷ ls) k f r b =
+    → some_binds (map (arm_typing context (Some t)) arms) ≡ false → ArmsBecome context t arms (arms_at scope t ls)
+arms_become here context env scope h at t v g [] [] k f r b = record { all = []; are = refl; typed = refl; declared = tt; known = refl }
+arms_become here context env scope h at t v g [] (l ∷ ls) k f r b = absurd k
+arms_become here context env scope h at t v g (a ∷ arms) [] k f r b = absurd k
+arms_become here context env scope h at t v g (a ∷ arms) (l ∷ ls) k f r b =
     let j = arm_typing context (Some t) a in
     let js = map (arm_typing context (Some t)) arms in
     let p = none_in_three j.seen.faults j.value.faults (arms_faults js) f in
     let q = all_in_three here j.seen.reached j.value.reached (arms_reached js) r in
     let s = or_false (has_several a.patterns && j.seen.binds) (some_binds js) b in
-    let one = arm_lowers_to here context env place h at t v g a l k.0 p.0 p.1 q.0 q.1 s.0 in
-    let more = arms_become here context env place h at t v g arms ls k.1 p.2 q.2 s.1 in
+    let one = arm_lowers_to here context env scope h at t v g a l k.0 p.0 p.1 q.0 q.1 s.0 in
+    let more = arms_become here context env scope h at t v g arms ls k.1 p.2 q.2 s.1 in
     record {
       all = one.arm ∷ more.all;
       are = λ i. one.is i ∷ more.are i;
       typed = λ i. one.typed i ∷ more.typed i;
       declared = (one.declared, more.declared);
-      known = λ i. alternatives_known here context env place h at (Some t) a.patterns k.0.meanings k.0.give (record { faults = p.0; reached = q.0 }) i && more.known i;
+      known = λ i. alternatives_known here context env scope h at (Some t) a.patterns k.0.meanings k.0.give (record { faults = p.0; reached = q.0 }) i && more.known i;
     }
 
 -- arms of one type
@@ -224,9 +224,9 @@ one_typed types t d (c ∷ cs) ds e =
 -- ---- `match`
 
 pub lower_total_match : (span : Span) (e : ExprPair) (arms : List ArmSeen) (x : ExprLowering) (ls : List ArmLowering) → ExprLowers e x → EachArmLowers arms ls
-    → PartLowers (λ context. match_typing span context e arms) (λ place. lower_match (x place) ls place)
-lower_total_match span e arms x ls se k here context env place h at well_typed =
-    ap (λ o. type_of_lowered (lower_match o ls place)) g.is
+    → PartLowers (λ context. match_typing span context e arms) (λ scope. lower_match (x scope) ls scope)
+lower_total_match span e arms x ls se k here context env scope h at well_typed =
+    ap (λ o. type_of_lowered (lower_match o ls scope)) g.is
     ∙ ap (λ o. type_of_lowered (and_then o (arms_of g.expr))) (ap all_some all.are ∙ all_are all.all)
     ∙ by_arms all.all all.typed all.declared
     ∙ sym (s.ty ∙ ap typed g.typed ∙ ap (λ b. where_true b (first_of_types (all_some (types_of (arm_values (typing (Some g.expr.ty))))))) all.known)
@@ -252,8 +252,8 @@ lower_total_match span e arms x ls se k here context env place h at well_typed =
     r : (list_all here value.reached ≡ true) × (list_all here (arms_reached (typing value.ty)) ≡ true)
     r = all_in here value.reached (arms_reached (typing value.ty)) s.reached
 
-    g : LowersTo (types_at context) value (x place)
-    g = alone_lowers_to here context env place e x se h at p.0 r.0
+    g : LowersTo (types_at context) value (x scope)
+    g = alone_lowers_to here context env scope e x se h at p.0 r.0
 
     at_type : List ArmTyping
     at_type = typing (Some g.expr.ty)
@@ -268,8 +268,8 @@ lower_total_match span e arms x ls se k here context env place h at well_typed =
         let c = or_false (is_empty at_type) (some_binds at_type) b.0 in
         (c.0, c.1, b.1)
 
-    all : ArmsBecome context g.expr.ty arms (arms_at place g.expr.ty ls)
-    all = arms_become here context env place h at g.expr.ty g.value g.given arms ls k (ap (λ o. arms_faults (typing o)) (sym g.typed) ∙ p.1) (ap (λ o. list_all here (arms_reached (typing o))) (sym g.typed) ∙ r.1) rule.1
+    all : ArmsBecome context g.expr.ty arms (arms_at scope g.expr.ty ls)
+    all = arms_become here context env scope h at g.expr.ty g.value g.given arms ls k (ap (λ o. arms_faults (typing o)) (sym g.typed) ∙ p.1) (ap (λ o. list_all here (arms_reached (typing o))) (sym g.typed) ∙ r.1) rule.1
 
     some_arm : {X : Type 0} (arms : List ArmSeen) → types_of (arm_values (map (arm_typing context (Some g.expr.ty)) arms)) ≡ [] → is_empty (map (arm_typing context (Some g.expr.ty)) arms) ≡ false → X
     some_arm [] e f = absurd (true≢false f)

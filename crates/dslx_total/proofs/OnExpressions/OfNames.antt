@@ -52,12 +52,12 @@ slot_typed (l ∷ ls) name = by_name (bytes_eq name l.name) (slot_typed ls name)
     by_name false rest = rest
 
 pub lower_total_name : (span : Span) (name : List ℕ) → PartLowers (λ context. name_typing span context name) (lower_name name)
-lower_total_name span name here context env place h at well_typed =
-    by_local (local_in name place.locals) (subst (λ o. IsWellTypedPart (reaching context.known here) (local_or_other span context name o)) same well_typed)
+lower_total_name span name here context env scope h at well_typed =
+    by_local (local_in name scope.locals) (subst (λ o. IsWellTypedPart (reaching context.known here) (local_or_other span context name o)) same well_typed)
     ∙ ap (λ o. (local_or_other span context name o).ty) (sym same)
   where
-    same : typed_in name context.locals ≡ slot_type (local_in name place.locals)
-    same = ap (typed_in name) (sym at.locals) ∙ slot_typed place.locals name
+    same : typed_in name context.locals ≡ slot_type (local_in name scope.locals)
+    same = ap (typed_in name) (sym at.locals) ∙ slot_typed scope.locals name
 
     by_item : (b : Bool) → IsWellTypedPart (reaching context.known here) (item_value span context name b) → type_of_lowered (and_then (context.known.items.constant name) literal) ≡ (item_value span context name b).ty
     by_item false f = some_fault (breaks 1 span) [] (settled_well_typed (reaching context.known here) span None (breaks 1 span ∷ []) [] (Some 1) f).faults
@@ -81,7 +81,7 @@ lower_total_name span name here context env place h at well_typed =
     by_end false f = by_number (given_in name context.parametric_args) f
 
     by_local : (o : Option BoundSlot) → IsWellTypedPart (reaching context.known here) (local_or_other span context name (slot_type o))
-        → type_of_lowered (slot_or_literal place name o) ≡ (local_or_other span context name (slot_type o)).ty
+        → type_of_lowered (slot_or_literal scope name o) ≡ (local_or_other span context name (slot_type o)).ty
     by_local None f =
         (λ i. type_of_lowered (and_then (or_else (given_in name (at.parametric_args i)) ((at.items i).constant name)) literal))
         ∙ by_end (is_in name context.ends) f
@@ -100,8 +100,8 @@ member_stands here context e a env h well_typed =
     let t = member_known context e a env h well_typed.faults in
     record { ty = t.0; typed = t.1; gives = subst (λ (items : Meanings). GivesOf (types_at context) t.0 (items.member e.name a.name)) h.items (member_gives context e a env h t.0 t.1) }
 
-pub lower_total_member : (span : Span) (e a : Ident) → PartLowers (λ context. limited span (member_typing context e a)) (λ place. and_then (place.known.items.member e.name a.name) literal)
-lower_total_member span e a here context env place h at well_typed =
+pub lower_total_member : (span : Span) (e a : Ident) → PartLowers (λ context. limited span (member_typing context e a)) (λ scope. and_then (scope.known.items.member e.name a.name) literal)
+lower_total_member span e a here context env scope h at well_typed =
     let m = member_stands here context e a env h (limited_well_typed (reaching context.known here) span (member_typing context e a) well_typed) in
     ap (λ (items : Meanings). type_of_lowered (and_then (items.member e.name a.name) literal)) at.items
     ∙ literal_typed (context.known.items.member e.name a.name)
@@ -112,14 +112,14 @@ lower_total_member span e a here context env place h at well_typed =
 pub bool_is : (span : Span) (b : Bool) → type_of_value (bool_value b) ≡ bool_type
 bool_is span b = let g = bool_gives (λ name. None) span b bool_type refl in one_type bool_type (bool_value b) (subst (λ v. is_of bool_type v ≡ true) (same_some g.value (bool_value b) (sym g.is)) g.of)
 
-pub lower_total_bool : (span : Span) (b : Bool) → PartLowers (λ context. settled span (Some bool_type) [] [] (Some 1)) (λ place. literal (bool_value b))
-lower_total_bool span b here context env place h at well_typed = ap Some (bool_is span b)
+pub lower_total_bool : (span : Span) (b : Bool) → PartLowers (λ context. settled span (Some bool_type) [] [] (Some 1)) (λ scope. literal (bool_value b))
+lower_total_bool span b here context env scope h at well_typed = ap Some (bool_is span b)
 
-pub lower_total_number : (span : Span) (j : TypeExprTyping) (l : TypeLowering) (number : UntypedLiteral) → WrittenLowers j l → NumberLowers (λ context. number_typing span (Some (j context)) number) (λ place. and_then (l place) (λ t. number_value t number))
-lower_total_number span j l number st here context env place h at well_typed =
+pub lower_total_number : (span : Span) (j : TypeExprTyping) (l : TypeLowering) (number : UntypedLiteral) → WrittenLowers j l → NumberLowers (λ context. number_typing span (Some (j context)) number) (λ scope. and_then (l scope) (λ t. number_value t number))
+lower_total_number span j l number st here context env scope h at well_typed =
     let written = j context in
     let wrong = range_faults span written.ty number in
-    let t = type_lowers_to here context env place j l st h at (record { faults = (none_in written.faults wrong well_typed.faults).0; reached = well_typed.reached }) in
+    let t = type_lowers_to here context env scope j l st h at (record { faults = (none_in written.faults wrong well_typed.faults).0; reached = well_typed.reached }) in
     let own = unlimited_type written.ty (written.faults ++ wrong) written.reached (Some 1) well_typed.faults ∙ t.typed in
     let g = number_gives (types_at context) span written (st.meaning env) number (st.stands.means context env h) t.ty own in
     ap (λ o. option_map type_of_value (and_then o (λ t. number_value t number))) t.is

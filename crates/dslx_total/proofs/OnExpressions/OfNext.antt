@@ -57,50 +57,50 @@ wrong_any known span context given [] well_typed = wrongly_called known span giv
 wrong_any known span context given (t ∷ []) well_typed = wrongly_called known span given (held_typing context t ∷ []) [] well_typed
 wrong_any known span context given (t ∷ c ∷ es) well_typed = wrongly_called known span given (held_typing context t ∷ (channel_seen context c).judgement ∷ all_alone context es) [] well_typed
 
-module _ (here : Instance → Bool) (context : TypeEnv) (env : Env) (outer place : CoreScope) (ends : List End) (h : IsWellTypedEnv context env) (at : ScopeMatchesEnv here context place) (members : MembersExist context outer ends) (e : Expr) where
+module _ (here : Instance → Bool) (context : TypeEnv) (env : Env) (outer scope : CoreScope) (ends : List End) (h : IsWellTypedEnv context env) (at : ScopeMatchesEnv here context scope) (members : MembersExist context outer ends) (e : Expr) where
   receives_at : (span : Span) (es : List Expr) → IsWellTypedPart (reaching context.known here) (receiving span context (map expr_pair es))
-      → ActThere (types_at context) outer ends place e (act_of_call Receives es) (receiving span context (map expr_pair es))
+      → ActThere (types_at context) outer ends scope e (act_of_call Receives es) (receiving span context (map expr_pair es))
   receives_at span [] well_typed = wrong_any (reaching context.known here) span context [] [] well_typed
   receives_at span (t ∷ []) well_typed = wrong_any (reaching context.known here) span context [] (expr_pair t ∷ []) well_typed
-  receives_at span (t ∷ c ∷ []) well_typed = receiving_there here context env outer place ends h at members span e t c well_typed
+  receives_at span (t ∷ c ∷ []) well_typed = receiving_there here context env outer scope ends h at members span e t c well_typed
   receives_at span (t ∷ c ∷ x ∷ es) well_typed = wrong_any (reaching context.known here) span context [] (map expr_pair (t ∷ c ∷ x ∷ es)) well_typed
 
   receives_if_at : (span : Span) (es : List Expr) → IsWellTypedPart (reaching context.known here) (receiving_if span context (map expr_pair es))
-      → ActThere (types_at context) outer ends place e (act_of_call ReceivesIf es) (receiving_if span context (map expr_pair es))
+      → ActThere (types_at context) outer ends scope e (act_of_call ReceivesIf es) (receiving_if span context (map expr_pair es))
   receives_if_at span [] well_typed = wrong_any (reaching context.known here) span context [] [] well_typed
   receives_if_at span (t ∷ []) well_typed = wrong_any (reaching context.known here) span context [] (map expr_pair (t ∷ [])) well_typed
   receives_if_at span (t ∷ c ∷ []) well_typed = wrong_any (reaching context.known here) span context [] (map expr_pair (t ∷ c ∷ [])) well_typed
   receives_if_at span (t ∷ c ∷ p ∷ []) well_typed = wrong_any (reaching context.known here) span context [] (map expr_pair (t ∷ c ∷ p ∷ [])) well_typed
   receives_if_at span (t ∷ c ∷ p ∷ x ∷ []) well_typed =
-      receiving_if_there here context env outer place ends h at members span e t c p x well_typed
+      receiving_if_there here context env outer scope ends h at members span e t c p x well_typed
   receives_if_at span (t ∷ c ∷ p ∷ x ∷ y ∷ es) well_typed = wrong_any (reaching context.known here) span context [] (map expr_pair (t ∷ c ∷ p ∷ x ∷ y ∷ es)) well_typed
 
   sends_at : (span : Span) (es : List Expr) → IsWellTypedPart (reaching context.known here) (sending span context (map expr_pair es))
-      → ActThere (types_at context) outer ends place e (act_of_call Sends es) (sending span context (map expr_pair es))
+      → ActThere (types_at context) outer ends scope e (act_of_call Sends es) (sending span context (map expr_pair es))
   sends_at span [] well_typed = wrong_any (reaching context.known here) span context [] [] well_typed
   sends_at span (t ∷ []) well_typed = wrong_any (reaching context.known here) span context [] (map expr_pair (t ∷ [])) well_typed
   sends_at span (t ∷ c ∷ []) well_typed = wrong_any (reaching context.known here) span context [] (map expr_pair (t ∷ c ∷ [])) well_typed
   sends_at span (t ∷ c ∷ x ∷ []) well_typed =
-      sending_there here context env outer place ends h at members span e t c x well_typed
+      sending_there here context env outer scope ends h at members span e t c x well_typed
   sends_at span (t ∷ c ∷ x ∷ y ∷ es) well_typed = wrong_any (reaching context.known here) span context [] (map expr_pair (t ∷ c ∷ x ∷ y ∷ es)) well_typed
 
   sends_if_at : (span : Span) (es : List Expr) → IsWellTypedPart (reaching context.known here) (sending_if span context (map expr_pair es))
-      → ActThere (types_at context) outer ends place e (act_of_call SendsIf es) (sending_if span context (map expr_pair es))
+      → ActThere (types_at context) outer ends scope e (act_of_call SendsIf es) (sending_if span context (map expr_pair es))
   sends_if_at span [] well_typed = wrong_any (reaching context.known here) span context [] [] well_typed
   sends_if_at span (t ∷ []) well_typed = wrong_any (reaching context.known here) span context [] (map expr_pair (t ∷ [])) well_typed
   sends_if_at span (t ∷ c ∷ []) well_typed = wrong_any (reaching context.known here) span context [] (map expr_pair (t ∷ c ∷ [])) well_typed
   sends_if_at span (t ∷ c ∷ p ∷ []) well_typed = wrong_any (reaching context.known here) span context [] (map expr_pair (t ∷ c ∷ p ∷ [])) well_typed
   sends_if_at span (t ∷ c ∷ p ∷ x ∷ []) well_typed =
-      sending_if_there here context env outer place ends h at members span e t c p x well_typed
+      sending_if_there here context env outer scope ends h at members span e t c p x well_typed
   sends_if_at span (t ∷ c ∷ p ∷ x ∷ y ∷ es) well_typed = wrong_any (reaching context.known here) span context [] (map expr_pair (t ∷ c ∷ p ∷ x ∷ y ∷ es)) well_typed
 
   -- what has a value alone is judged alike at the top and elsewhere
-  alike_there : (j : Judgement) → (expr_pair e).1 false context ≡ j → IsWellTypedPart (reaching context.known here) j → ActThere (types_at context) outer ends place e Computes j
-  alike_there j q well_typed = subst (ActThere (types_at context) outer ends place e Computes) q (computes_there here context env outer place ends h at members e (subst (IsWellTypedPart (reaching context.known here)) (sym q) well_typed))
+  alike_there : (j : Judgement) → (expr_pair e).1 false context ≡ j → IsWellTypedPart (reaching context.known here) j → ActThere (types_at context) outer ends scope e Computes j
+  alike_there j q well_typed = subst (ActThere (types_at context) outer ends scope e Computes) q (computes_there here context env outer scope ends h at members e (subst (IsWellTypedPart (reaching context.known here)) (sym q) well_typed))
 
-  act_there : IsWellTypedPart (reaching context.known here) ((expr_pair e).1 true context) → ActThere (types_at context) outer ends place e (act_of e) ((expr_pair e).1 true context)
+  act_there : IsWellTypedPart (reaching context.known here) ((expr_pair e).1 true context) → ActThere (types_at context) outer ends scope e (act_of e) ((expr_pair e).1 true context)
   act_there well_typed =
-      subst (ActThere (types_at context) outer ends place e (act_of e)) (sym (typing_at e true context))
+      subst (ActThere (types_at context) outer ends scope e (act_of e)) (sym (typing_at e true context))
       (by_node (node_of e) (typing_at e false context) (subst (IsWellTypedPart (reaching context.known here)) (typing_at e true context) well_typed))
     where
       span : Span
@@ -111,7 +111,7 @@ module _ (here : Instance → Bool) (context : TypeEnv) (env : Env) (outer place
 
       by_call : (f : Ident) (parametric_args : List Arg) (es : List Expr) (k : CallKind) → (expr_pair e).1 false context ≡ call_typing k span f (map (fold_arg seen seeing) parametric_args) (map expr_pair es) false context
           → IsWellTypedPart (reaching context.known here) (call_typing k span f (map (fold_arg seen seeing) parametric_args) (map expr_pair es) true context)
-          → ActThere (types_at context) outer ends place e (act_of_call k es) (call_typing k span f (map (fold_arg seen seeing) parametric_args) (map expr_pair es) true context)
+          → ActThere (types_at context) outer ends scope e (act_of_call k es) (call_typing k span f (map (fold_arg seen seeing) parametric_args) (map expr_pair es) true context)
       by_call f [] es Receives q g = receives_at span es g
       by_call f (n ∷ ns) es Receives q g = wrong_any (reaching context.known here) span context (given_parametric_args context (map (fold_arg seen seeing) (n ∷ ns))) (map expr_pair es) g
       by_call f [] es ReceivesIf q g = receives_if_at span es g
@@ -131,7 +131,7 @@ module _ (here : Instance → Bool) (context : TypeEnv) (env : Env) (outer place
       by_call f parametric_args es Calls q g = alike_there _ q g
 
       by_node : (y : NodeLayer) → (expr_pair e).1 false context ≡ typing y false → IsWellTypedPart (reaching context.known here) (typing y true)
-          → ActThere (types_at context) outer ends place e (act_of_node y) (typing y true)
+          → ActThere (types_at context) outer ends scope e (act_of_node y) (typing y true)
       by_node (Node-F.Call f parametric_args es) q g = by_call f parametric_args es (kind_of_call f.name) q g
       by_node (Node-F.Node::Number n) q g = alike_there _ q g
       by_node (Node-F.Node::Bool b) q g = alike_there _ q g
@@ -169,20 +169,20 @@ steps_there : (types : Declarations) (j : Judgement) (o : Option LoweredSteps) �
 steps_there types j None g = absurd (true≢false (sym (ap is_some g.is)))
 steps_there types j (Some l) g = record { steps = l; is = refl; typed = g.typed ∙ sym g.is; declared = subst (IsDeclared types) (sym (same_some l.next.ty g.own g.is)) g.declared }
 
-last_there : (here : Instance → Bool) (context : TypeEnv) (env : Env) (place : CoreScope) (e : Expr) → IsWellTypedEnv context env → ScopeMatchesEnv here context place → IsWellTypedPart (reaching context.known here) (alone context (expr_pair e))
-    → GoesTo (types_at context) (alone context (expr_pair e)).ty (and_then (lower_expression e place) (λ e. Some (record { steps = []; next = e })))
-last_there here context env place e h at well_typed =
-    let g = alone_lowers_to here context env place (expr_pair e) (lower_expression e) (expression_part e) h at well_typed.faults well_typed.reached in
+last_there : (here : Instance → Bool) (context : TypeEnv) (env : Env) (scope : CoreScope) (e : Expr) → IsWellTypedEnv context env → ScopeMatchesEnv here context scope → IsWellTypedPart (reaching context.known here) (alone context (expr_pair e))
+    → GoesTo (types_at context) (alone context (expr_pair e)).ty (and_then (lower_expression e scope) (λ e. Some (record { steps = []; next = e })))
+last_there here context env scope e h at well_typed =
+    let g = alone_lowers_to here context env scope (expr_pair e) (lower_expression e) (expression_part e) h at well_typed.faults well_typed.reached in
     record { own = g.expr.ty; typed = g.typed; declared = g.declared; is = ap (λ o. type_of_steps (and_then o (λ e. Some (record { steps = []; next = e })))) g.is }
 
 -- ---- statements
 
 -- whatever type the next state has behind a statement, it has at the statement
 record StepExists (s : StatementTyping) (l : CoreScope → List End → StepsLowering → StepsLowering) : Type 0 where
-  lowers : (here : Instance → Bool) (context : TypeEnv) (env : Env) (outer place : CoreScope) (ends : List End) → IsWellTypedEnv context env → ScopeMatchesEnv here context place → MembersExist context outer ends
+  lowers : (here : Instance → Bool) (context : TypeEnv) (env : Env) (outer scope : CoreScope) (ends : List End) → IsWellTypedEnv context env → ScopeMatchesEnv here context scope → MembersExist context outer ends
       → IsClean here (s true context).faults (s true context).reached → (rest : StepsLowering) (types : Declarations) (t : Option DslxType)
       → ((inner : Env) (beyond : CoreScope) → IsWellTypedEnv (s true context).context inner → ScopeMatchesEnv here (s true context).context beyond → MembersExist (s true context).context outer ends → GoesTo types t (rest beyond))
-      → GoesTo types t (l outer ends rest place)
+      → GoesTo types t (l outer ends rest scope)
   -- it leaves what is known alone
   known : (context : TypeEnv) → (s true context).context.known ≡ context.known
 
@@ -191,7 +191,7 @@ let_there : (e : Expr) (written : Option TypePair) (f : Option TypeDen) → Type
     (pattern_alone false context (bound_type (written_typing context written) ((expr_pair e).1 on_top context).ty) (fold_pattern seen seeing p)))
     (λ outer ends. lower_act outer ends (act_of e) e (lower_in_scope (fold_pattern become becoming p).1))
 let_there e written f st text = record {
-  lowers = λ here context env outer place ends h at members clean rest types t goes.
+  lowers = λ here context env outer scope ends h at members clean rest types t goes.
       let p = fold_pattern seen seeing text in
       let l = (fold_pattern become becoming text).1 in
       let tree = (expr_pair e).0 in
@@ -201,16 +201,16 @@ let_there e written f st text = record {
       let bound = pattern_alone false context (bound_type j value.ty) p in
       let q = none_in_three value.faults (annotation_faults span j value.ty) bound.faults clean.faults in
       let r = all_in_three here value.reached (annotation_reached j) bound.reached clean.reached in
-      let a = act_there here context env outer place ends h at members e (record { faults = q.0; reached = r.0 }) in
-      let own = bound_there here context env place h at span written f st a.own (ap (annotation_faults span j) (sym a.typed) ∙ q.1) r.1 in
+      let a = act_there here context env outer scope ends h at members e (record { faults = q.0; reached = r.0 }) in
+      let own = bound_there here context env scope h at span written f st a.own (ap (annotation_faults span j) (sym a.typed) ∙ q.1) r.1 in
       let typed : bound_type j value.ty ≡ Some a.own = ap (bound_type j) a.typed ∙ own in
       let same : bound ≡ pattern_alone false context (Some a.own) p = ap (λ o. pattern_alone false context o p) typed in
-      let one = (pattern_part text).lowers here false context a.own [] context.locals env place place h at at a.declared (record { faults = ap (λ (b : PatternSeen). b.faults) (sym same) ∙ q.2; reached = ap (λ (b : PatternSeen). list_all here b.reached) (sym same) ∙ r.2 }) in
+      let one = (pattern_part text).lowers here false context a.own [] context.locals env scope scope h at at a.declared (record { faults = ap (λ (b : PatternSeen). b.faults) (sym same) ∙ q.2; reached = ap (λ (b : PatternSeen). list_all here b.reached) (sym same) ∙ r.2 }) in
       let v = some_value (types_at context) h.known.parts a.own a.declared in
       let inner = (pattern_gives text).behind false context a.own [] context.locals env v.0 h v.1 (ap (λ (b : PatternSeen). has_broken b.faults) (sym same) ∙ ap has_broken q.2) in
       let here_typed = subst (λ (b : PatternSeen). IsWellTypedEnv (behind context b.locals tree) inner.0) (sym same) (typed_behind context (pattern_alone false context (Some a.own) p).locals tree inner.0 inner.1) in
-      let here_stands = subst (λ (b : PatternSeen). ScopeMatchesEnv here (behind context b.locals tree) one.shape.place) (sym same) (stands_behind here context (pattern_alone false context (Some a.own) p).locals tree one.shape.place one.behind) in
-      let g = goes inner.0 one.shape.place here_typed here_stands members in
+      let here_stands = subst (λ (b : PatternSeen). ScopeMatchesEnv here (behind context b.locals tree) one.shape.scope) (sym same) (stands_behind here context (pattern_alone false context (Some a.own) p).locals tree one.shape.scope one.behind) in
+      let g = goes inner.0 one.shape.scope here_typed here_stands members in
       record { own = g.own; typed = g.typed; declared = g.declared; is = a.steps (lower_in_scope l) rest one.shape one.is ∙ g.is };
   known = λ context. refl;
 }
@@ -224,11 +224,11 @@ bare_there : (e : Expr)
     })
     (λ outer ends. lower_act outer ends (act_of e) e binds_nothing)
 bare_there e = record {
-  lowers = λ here context env outer place ends h at members clean rest types t goes.
+  lowers = λ here context env outer scope ends h at members clean rest types t goes.
       let j = (expr_pair e).1 true context in
-      let a = act_there here context env outer place ends h at members e (bare_well_typed (reaching context.known here) (is_effect (expr_pair e).0) j (record { faults = clean.faults; reached = clean.reached })) in
-      let g = goes env place (typed_behind context context.locals (expr_pair e).0 env h) (stands_behind here context context.locals (expr_pair e).0 place at) members in
-      record { own = g.own; typed = g.typed; declared = g.declared; is = a.steps binds_nothing rest (record { shape = shape.Wild; place = place }) refl ∙ g.is };
+      let a = act_there here context env outer scope ends h at members e (bare_well_typed (reaching context.known here) (is_effect (expr_pair e).0) j (record { faults = clean.faults; reached = clean.reached })) in
+      let g = goes env scope (typed_behind context context.locals (expr_pair e).0 env h) (stands_behind here context context.locals (expr_pair e).0 scope at) members in
+      record { own = g.own; typed = g.typed; declared = g.declared; is = a.steps binds_nothing rest (record { shape = shape.Wild; scope = scope }) refl ∙ g.is };
   known = λ context. refl;
 }
   where
@@ -270,17 +270,17 @@ statement_there x =
 abbrev typing_statements : List Stmt → StatementTyping
 typing_statements ss = statements_typing (map (λ (s : Stmt × StatementTyping). s.1) (map (fold_stmt seen seeing) ss))
 
-statements_there : (ss : List Stmt) (last : Option Expr) (types : Declarations) (t : Option DslxType) (here : Instance → Bool) (context : TypeEnv) (env : Env) (outer place : CoreScope) (ends : List End)
-    → IsWellTypedEnv context env → ScopeMatchesEnv here context place → MembersExist context outer ends → IsClean here (typing_statements ss true context).faults (typing_statements ss true context).reached
+statements_there : (ss : List Stmt) (last : Option Expr) (types : Declarations) (t : Option DslxType) (here : Instance → Bool) (context : TypeEnv) (env : Env) (outer scope : CoreScope) (ends : List End)
+    → IsWellTypedEnv context env → ScopeMatchesEnv here context scope → MembersExist context outer ends → IsClean here (typing_statements ss true context).faults (typing_statements ss true context).reached
     → ((inner : Env) (beyond : CoreScope) → IsWellTypedEnv (typing_statements ss true context).context inner → ScopeMatchesEnv here (typing_statements ss true context).context beyond → GoesTo types t (statements_steps outer ends [] last beyond))
-    → GoesTo types t (statements_steps outer ends ss last place)
-statements_there [] last types t here context env outer place ends h at members clean goes = goes env place h at
-statements_there (s ∷ ss) last types t here context env outer place ends h at members clean goes =
+    → GoesTo types t (statements_steps outer ends ss last scope)
+statements_there [] last types t here context env outer scope ends h at members clean goes = goes env scope h at
+statements_there (s ∷ ss) last types t here context env outer scope ends h at members clean goes =
     let first = (fold_stmt seen seeing s).1 true context in
     let rest = typing_statements ss true first.context in
     let p = none_in first.faults rest.faults clean.faults in
     let q = all_in here first.reached rest.reached clean.reached in
-    (statement_there s).lowers here context env outer place ends h at members (record { faults = p.0; reached = q.0 }) (statements_steps outer ends ss last) types t
+    (statement_there s).lowers here context env outer scope ends h at members (record { faults = p.0; reached = q.0 }) (statements_steps outer ends ss last) types t
     (λ inner beyond typed stands there. statements_there ss last types t here first.context inner outer beyond ends typed stands there (record { faults = p.1; reached = q.1 }) goes)
 
 statements_known : (ss : List Stmt) (context : TypeEnv) → (typing_statements ss true context).context.known ≡ context.known
@@ -290,10 +290,10 @@ statements_known (s ∷ ss) context =
 
 -- ---- the block
 
-pub block_of_next : (b : Block) (here : Instance → Bool) (context : TypeEnv) (env : Env) (outer place : CoreScope) (ends : List End) → IsWellTypedEnv context env → ScopeMatchesEnv here context place → MembersExist context outer ends
-    → IsWellTypedPart (reaching context.known here) ((block_pair b).1 true context) → LowersToSteps (types_at context) ((block_pair b).1 true context) (statements_steps outer ends (out-Block b).statements (out-Block b).value place)
-block_of_next b here context env outer place ends h at members well_typed =
-    subst (λ j. LowersToSteps (types_at context) j (statements_steps outer ends (out-Block b).statements (out-Block b).value place)) (sym typing)
+pub block_of_next : (b : Block) (here : Instance → Bool) (context : TypeEnv) (env : Env) (outer scope : CoreScope) (ends : List End) → IsWellTypedEnv context env → ScopeMatchesEnv here context scope → MembersExist context outer ends
+    → IsWellTypedPart (reaching context.known here) ((block_pair b).1 true context) → LowersToSteps (types_at context) ((block_pair b).1 true context) (statements_steps outer ends (out-Block b).statements (out-Block b).value scope)
+block_of_next b here context env outer scope ends h at members well_typed =
+    subst (λ j. LowersToSteps (types_at context) j (statements_steps outer ends (out-Block b).statements (out-Block b).value scope)) (sym typing)
     (by_value (out-Block b).value (subst (IsWellTypedPart (reaching context.known here)) typing well_typed))
   where
     out_block : (c : Carriers) (s : Steps c) (x : Block) → fold_block c s x ≡ s.block (map_block trees c (folds c s) (out-Block x))
@@ -318,16 +318,16 @@ block_of_next b here context env outer place ends h at members well_typed =
     by_last : (o : Option Expr) (last : Judgement)
         → IsWellTypedPart (reaching context.known here) (settled (out-Block b).span last.ty (walked.faults ++ last.faults) (walked.reached ++ last.reached) (one_and (plus_size walked.size last.size)))
         → ((inner : Env) (beyond : CoreScope) → IsWellTypedEnv walked.context inner → ScopeMatchesEnv here walked.context beyond → IsWellTypedPart (reaching context.known here) last → GoesTo (types_at walked.context) last.ty (statements_steps outer ends [] o beyond))
-        → LowersToSteps (types_at context) (settled (out-Block b).span last.ty (walked.faults ++ last.faults) (walked.reached ++ last.reached) (one_and (plus_size walked.size last.size))) (statements_steps outer ends ss o place)
+        → LowersToSteps (types_at context) (settled (out-Block b).span last.ty (walked.faults ++ last.faults) (walked.reached ++ last.reached) (one_and (plus_size walked.size last.size))) (statements_steps outer ends ss o scope)
     by_last o last well_typed goes =
         let size = one_and (plus_size walked.size last.size) in
         let s = settled_well_typed (reaching context.known here) (out-Block b).span last.ty (walked.faults ++ last.faults) (walked.reached ++ last.reached) size well_typed in
         let p = none_in walked.faults last.faults s.faults in
         let q = all_in here walked.reached last.reached s.reached in
-        let g = statements_there ss o (types_at walked.context) last.ty here context env outer place ends h at members (record { faults = p.0; reached = q.0 }) (λ inner beyond typed stands. goes inner beyond typed stands (record { faults = p.1; reached = q.1 })) in
-        steps_there (types_at context) (settled (out-Block b).span last.ty (walked.faults ++ last.faults) (walked.reached ++ last.reached) size) (statements_steps outer ends ss o place) (record { own = g.own; typed = s.ty ∙ g.typed; declared = subst (λ (k : GlobalEnv). IsDeclared k.items.type_named g.own) (statements_known ss context) g.declared; is = g.is })
+        let g = statements_there ss o (types_at walked.context) last.ty here context env outer scope ends h at members (record { faults = p.0; reached = q.0 }) (λ inner beyond typed stands. goes inner beyond typed stands (record { faults = p.1; reached = q.1 })) in
+        steps_there (types_at context) (settled (out-Block b).span last.ty (walked.faults ++ last.faults) (walked.reached ++ last.reached) size) (statements_steps outer ends ss o scope) (record { own = g.own; typed = s.ty ∙ g.typed; declared = subst (λ (k : GlobalEnv). IsDeclared k.items.type_named g.own) (statements_known ss context) g.declared; is = g.is })
 
-    by_value : (o : Option Expr) → IsWellTypedPart (reaching context.known here) (judgement o) → LowersToSteps (types_at context) (judgement o) (statements_steps outer ends ss o place)
+    by_value : (o : Option Expr) → IsWellTypedPart (reaching context.known here) (judgement o) → LowersToSteps (types_at context) (judgement o) (statements_steps outer ends ss o scope)
     by_value None well_typed =
         by_last None (last_typing walked.context None) well_typed (λ inner beyond typed stands well_typed. record { own = unit_type; typed = refl; declared = tuple_declared (types_at walked.context) [] tt; is = refl })
     by_value (Some e) well_typed =

@@ -85,8 +85,8 @@ operands_fit types b.Ge span left right t u dt du e k = refl
 operands_fit types b.Both span left right t u dt du e k = refl
 operands_fit types b.Either span left right t u dt du e k = refl
 
-pub lower_total_binary : (span : Span) (o : Binary) (l r : ExprPair) (x y : ExprLowering) → ExprLowers l x → ExprLowers r y → PartLowers (λ context. binary_typing span context o l r) (λ place. lower_binary o (x place) (y place))
-lower_total_binary span o l r x y sl sr here context env place h at well_typed =
+pub lower_total_binary : (span : Span) (o : Binary) (l r : ExprPair) (x y : ExprLowering) → ExprLowers l x → ExprLowers r y → PartLowers (λ context. binary_typing span context o l r) (λ scope. lower_binary o (x scope) (y scope))
+lower_total_binary span o l r x y sl sr here context env scope h at well_typed =
     let a = alone context l in
     let c = alone context r in
     let wrong = binary_faults o span (span_of l) a.ty (span_of r) c.ty in
@@ -94,8 +94,8 @@ lower_total_binary span o l r x y sl sr here context env place h at well_typed =
     let s = settled_well_typed (reaching context.known here) span own ((a.faults ++ c.faults) ++ wrong) (a.reached ++ c.reached) (one_and (plus_size a.size c.size)) well_typed in
     let f = none_in_three a.faults c.faults wrong s.faults in
     let k = all_in here a.reached c.reached s.reached in
-    let p = alone_lowers_to here context env place l x sl h at f.0 k.0 in
-    let q = alone_lowers_to here context env place r y sr h at f.1 k.1 in
+    let p = alone_lowers_to here context env scope l x sl h at f.0 k.0 in
+    let q = alone_lowers_to here context env scope r y sr h at f.1 k.1 in
     let is : own ≡ Some (result_of_binary o p.expr.ty q.expr.ty) = (λ i. binary_type o (p.typed i) (q.typed i)) ∙ result_is o p.expr.ty q.expr.ty in
     let limits = sym (ap (type_limits span.to) is) ∙ settled_limits span own ((a.faults ++ c.faults) ++ wrong) (a.reached ++ c.reached) (one_and (plus_size a.size c.size)) well_typed.faults in
     let fit = operands_fit (types_at context) o span (span_of l) (span_of r) p.expr.ty q.expr.ty p.declared q.declared ((λ i. binary_faults o span (span_of l) (sym p.typed i) (span_of r) (sym q.typed i)) ∙ f.2) limits in
@@ -103,12 +103,12 @@ lower_total_binary span o l r x y sl sr here context env place h at well_typed =
     ∙ ap (λ t. type_of_lowered (where_true t (lowered (core.Binary (binary_core o (sign_of p.expr.ty)) p.expr.core q.expr.core) (result_of_binary o p.expr.ty q.expr.ty)))) fit
     ∙ sym is ∙ sym s.ty
 
-pub lower_total_prefix : (span : Span) (o : Prefix) (e : ExprPair) (x : ExprLowering) → ExprLowers e x → PartLowers (λ context. prefix_typing span context e) (λ place. lower_prefix o (x place))
-lower_total_prefix span o e x se here context env place h at well_typed =
+pub lower_total_prefix : (span : Span) (o : Prefix) (e : ExprPair) (x : ExprLowering) → ExprLowers e x → PartLowers (λ context. prefix_typing span context e) (λ scope. lower_prefix o (x scope))
+lower_total_prefix span o e x se here context env scope h at well_typed =
     let a = alone context e in
     let wrong = unless_type is_bits 11 span a.ty in
     let s = settled_well_typed (reaching context.known here) span a.ty (a.faults ++ wrong) a.reached (one_and a.size) well_typed in
-    let p = alone_lowers_to here context env place e x se h at (none_in a.faults wrong s.faults).0 s.reached in
+    let p = alone_lowers_to here context env scope e x se h at (none_in a.faults wrong s.faults).0 s.reached in
     ap (λ o'. type_of_lowered (lower_prefix o o')) p.is ∙ sym p.typed ∙ sym s.ty
 
 -- ---- casts
@@ -128,8 +128,8 @@ width_fits t kind e some few = λ i. some i && (sym (ap (λ o. nat_le (width_in 
     width_in None = 0
     width_in (Some kind) = kind.width
 
-pub lower_total_cast : (span : Span) (e : ExprPair) (j : TypeExprTyping) (x : ExprLowering) (l : TypeLowering) → ExprLowers e x → WrittenLowers j l → PartLowers (λ context. cast_typing span context e (j context)) (λ place. lower_cast (x place) (l place))
-lower_total_cast span e j x l se st here context env place h at well_typed =
+pub lower_total_cast : (span : Span) (e : ExprPair) (j : TypeExprTyping) (x : ExprLowering) (l : TypeLowering) → ExprLowers e x → WrittenLowers j l → PartLowers (λ context. cast_typing span context e (j context)) (λ scope. lower_cast (x scope) (l scope))
+lower_total_cast span e j x l se st here context env scope h at well_typed =
     let a = alone context e in
     let target = j context in
     let from = unless_type is_bits_or_enum 20 span a.ty in
@@ -139,8 +139,8 @@ lower_total_cast span e j x l se st here context env place h at well_typed =
     let p = none_in_three (a.faults ++ target.faults) from to s.faults in
     let q = none_in a.faults target.faults p.0 in
     let k = all_in here a.reached target.reached s.reached in
-    let g = alone_lowers_to here context env place e x se h at q.0 k.0 in
-    let t = type_lowers_to here context env place j l st h at (record { faults = q.1; reached = k.1 }) in
+    let g = alone_lowers_to here context env scope e x se h at q.0 k.0 in
+    let t = type_lowers_to here context env scope j l st h at (record { faults = q.1; reached = k.1 }) in
     let kind = there (bits_in t.ty) (unless_passed is_bits 20 span target.ty t.ty t.typed p.2) in
     let is : own ≡ Some t.ty = ap (λ o. and_then o (λ t. target.ty)) g.typed ∙ t.typed in
     let few = narrow span.to t.ty (sym (ap (type_limits span.to) is) ∙ settled_limits span own (((a.faults ++ target.faults) ++ from) ++ to) (a.reached ++ target.reached) (one_and a.size) well_typed.faults) in
@@ -151,8 +151,8 @@ lower_total_cast span e j x l se st here context env place h at well_typed =
 
 -- ---- indices, parts of bits and fields
 
-pub lower_total_index : (span : Span) (e i : ExprPair) (x y : ExprLowering) → ExprLowers e x → ExprLowers i y → PartLowers (λ context. index_typing span context e i) (λ place. lower_index (x place) (y place))
-lower_total_index span e i x y se si here context env place h at well_typed =
+pub lower_total_index : (span : Span) (e i : ExprPair) (x y : ExprLowering) → ExprLowers e x → ExprLowers i y → PartLowers (λ context. index_typing span context e i) (λ scope. lower_index (x scope) (y scope))
+lower_total_index span e i x y se si here context env scope h at well_typed =
     let a = alone context e in
     let c = alone context i in
     let array = unless_type is_array 19 span a.ty in
@@ -162,8 +162,8 @@ lower_total_index span e i x y se si here context env place h at well_typed =
     let p = none_in_three (a.faults ++ c.faults) array start s.faults in
     let q = none_in a.faults c.faults p.0 in
     let k = all_in here a.reached c.reached s.reached in
-    let ga = alone_lowers_to here context env place e x se h at q.0 k.0 in
-    let gc = alone_lowers_to here context env place i y si h at q.1 k.1 in
+    let ga = alone_lowers_to here context env scope e x se h at q.0 k.0 in
+    let gc = alone_lowers_to here context env scope i y si h at q.1 k.1 in
     let parts = there (array_in ga.expr.ty) (unless_passed is_array 19 span a.ty ga.expr.ty ga.typed p.1) in
     (λ d. type_of_lowered (lower_index (ga.is d) (gc.is d)))
     ∙ ap (λ o. type_of_lowered (and_then o (λ parts. lowered (core.Index ga.expr.core gc.expr.core) parts.0))) parts.1
@@ -181,8 +181,8 @@ unsigned_is t kind e u =
     positive false h = refl
 
 pub lower_total_part : (span : Span) (e i : ExprPair) (j : TypeExprTyping) (x y : ExprLowering) (l : TypeLowering) → ExprLowers e x → ExprLowers i y → WrittenLowers j l
-    → PartLowers (λ context. part_typing span context e i (j context)) (λ place. lower_part (x place) (y place) (l place))
-lower_total_part span e i j x y l se si st here context env place h at well_typed =
+    → PartLowers (λ context. part_typing span context e i (j context)) (λ scope. lower_part (x scope) (y scope) (l scope))
+lower_total_part span e i j x y l se si st here context env scope h at well_typed =
     let a = alone context e in
     let c = alone context i in
     let target = j context in
@@ -198,9 +198,9 @@ lower_total_part span e i j x y l se si st here context env place h at well_type
     let q = none_in three bits p.0 in
     let r = none_in_three a.faults c.faults target.faults q.0 in
     let k = all_in_three here a.reached c.reached target.reached s.reached in
-    let ga = alone_lowers_to here context env place e x se h at r.0 k.0 in
-    let gc = alone_lowers_to here context env place i y si h at r.1 k.1 in
-    let t = type_lowers_to here context env place j l st h at (record { faults = r.2; reached = k.2 }) in
+    let ga = alone_lowers_to here context env scope e x se h at r.0 k.0 in
+    let gc = alone_lowers_to here context env scope i y si h at r.1 k.1 in
+    let t = type_lowers_to here context env scope j l st h at (record { faults = r.2; reached = k.2 }) in
     let plain = unless_passed is_unsigned 18 span target.ty t.ty t.typed p.2 in
     let kind = unsigned_kind (bits_in t.ty) plain in
     let is : own ≡ Some t.ty = (λ d. and_then (ga.typed d) (λ t. and_then (gc.typed d) (λ u. target.ty))) ∙ t.typed in
@@ -237,12 +237,12 @@ field_typed o e u name is k =
     let f = field_there e.ty u name k in
     ap (λ o'. type_of_lowered (lower_field o' name)) is ∙ ap (λ p. type_of_lowered (and_then p (λ p. lowered (core.Element e.core p.0) p.1))) f.1
 
-pub lower_total_field : (span : Span) (e : ExprPair) (name : Ident) (x : ExprLowering) → ExprLowers e x → PartLowers (λ context. field_part_typing span context e name) (λ place. lower_field (x place) name.name)
-lower_total_field span e name x se here context env place h at well_typed =
+pub lower_total_field : (span : Span) (e : ExprPair) (name : Ident) (x : ExprLowering) → ExprLowers e x → PartLowers (λ context. field_part_typing span context e name) (λ scope. lower_field (x scope) name.name)
+lower_total_field span e name x se here context env scope h at well_typed =
     let a = alone context e in
     let wrong = unless_type (λ t. is_there (field_type (Some t) name.name)) 19 span a.ty in
     let s = settled_well_typed (reaching context.known here) span (field_type a.ty name.name) (a.faults ++ wrong) a.reached (one_and a.size) well_typed in
     let f = none_in a.faults wrong s.faults in
-    let g = alone_lowers_to here context env place e x se h at f.0 s.reached in
+    let g = alone_lowers_to here context env scope e x se h at f.0 s.reached in
     let t = there (field_type (Some g.expr.ty) name.name) (unless_passed (λ t. is_there (field_type (Some t) name.name)) 19 span a.ty g.expr.ty g.typed f.1) in
-    field_typed (x place) g.expr t.0 name.name g.is t.1 ∙ sym (ap (λ o. field_type o name.name) g.typed ∙ t.1) ∙ sym s.ty
+    field_typed (x scope) g.expr t.0 name.name g.is t.1 ∙ sym (ap (λ o. field_type o name.name) g.typed ∙ t.1) ∙ sym s.ty

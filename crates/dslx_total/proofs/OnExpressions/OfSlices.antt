@@ -28,8 +28,8 @@ within_both n w most p q =
     le-leb n most c
 
 pub lower_total_slice : (span : Span) (e a c : ExprPair) (x y z : ExprLowering) → ExprLowers e x → ExprLowers a y → ExprLowers c z
-    → PartLowers (λ context. slice_typing span context e a c) (λ place. lower_slice (x place) (bound_at place a.0) (bound_at place c.0))
-lower_total_slice span e a c x y z se sa sc here context env place h at well_typed =
+    → PartLowers (λ context. slice_typing span context e a c) (λ scope. lower_slice (x scope) (bound_at scope a.0) (bound_at scope c.0))
+lower_total_slice span e a c x y z se sa sc here context env scope h at well_typed =
     let whole = alone context e in
     let from = constant_or_untyped context a in
     let to = constant_or_untyped context c in
@@ -47,13 +47,13 @@ lower_total_slice span e a c x y z se sa sc here context env place h at well_typ
     let right = or_false (is_wrong_bound whole.ty from) (is_wrong_bound whole.ty to) r.0 in
     let first = or_false (is_negative_bound from) (is_past whole.ty (bound_number from)) right.0 in
     let last = or_false (is_negative_bound to) (is_past whole.ty (bound_number to)) right.1 in
-    let g = alone_lowers_to here context env place e x se h at q.0 k.0 in
+    let g = alone_lowers_to here context env scope e x se h at q.0 k.0 in
     let fa : IsWellTypedPart (reaching context.known here) from.judgement = record { faults = q.1; reached = k.1 } in
     let fc : IsWellTypedPart (reaching context.known here) to.judgement = record { faults = q.2; reached = k.2 } in
-    let m = bound_has context env a sa.meaning sa.gives h (well_typed_there here context place from.judgement at fa) first.0 in
-    let n = bound_has context env c sc.meaning sc.gives h (well_typed_there here context place to.judgement at fc) last.0 in
-    let low = bound_there here context env place a sa.meaning sa.gives h at fa first.0 ∙ m.1 in
-    let high = bound_there here context env place c sc.meaning sc.gives h at fc last.0 ∙ n.1 in
+    let m = bound_has context env a sa.meaning sa.gives h (well_typed_there here context scope from.judgement at fa) first.0 in
+    let n = bound_has context env c sc.meaning sc.gives h (well_typed_there here context scope to.judgement at fc) last.0 in
+    let low = bound_there here context env scope a sa.meaning sa.gives h at fa first.0 ∙ m.1 in
+    let high = bound_there here context env scope c sc.meaning sc.gives h at fc last.0 ∙ n.1 in
     let inside = bounds_within g.expr.ty m.0 n.0 ((λ i. is_past (sym g.typed i) (sym n.1 i)) ∙ last.1) ((λ i. bounds_fall (sym m.1 i) (sym n.1 i)) ∙ r.1) in
     let two = and_true (nat_lt m.0 n.0) (nat_le n.0 (width_of_type g.expr.ty)) inside in
     (λ i. type_of_lowered (lower_slice (g.is i) (low i) (high i)))

@@ -44,8 +44,8 @@ use Rattle.dslx_total.proofs.OnExpressions.Parts.{LowersTo, alone_lowers_to, typ
 
 pub record FieldLowers (f : FieldSeen) (w : FieldLowering) : Type 0 where
   pub name : f.name.name ≡ w.name
-  pub lowers : (here : Instance → Bool) (context : TypeEnv) (struct : Option DslxType) (env : Env) (place : CoreScope) → IsWellTypedEnv context env → ScopeMatchesEnv here context place
-      → IsWellTypedPart (reaching context.known here) (field_typing context struct f) → LowersTo (types_at context) (field_typing context struct f) (w.value place)
+  pub lowers : (here : Instance → Bool) (context : TypeEnv) (struct : Option DslxType) (env : Env) (scope : CoreScope) → IsWellTypedEnv context env → ScopeMatchesEnv here context scope
+      → IsWellTypedPart (reaching context.known here) (field_typing context struct f) → LowersTo (types_at context) (field_typing context struct f) (w.value scope)
 
 abbrev pub EachFieldLowers : List FieldSeen → List FieldLowering → Type 0
 EachFieldLowers [] [] = Unit {0}
@@ -75,13 +75,13 @@ names_same (f ∷ fs) [] k = absurd k
 names_same (f ∷ fs) (w ∷ ws) k = λ i. sym k.0.name i ∷ names_same fs ws k.1 i
 
 -- a field is written, with a value of its type, or it isn't
-data FieldFound (place : CoreScope) (name : List ℕ) (t : DslxType) (fs : List FieldSeen) (ws : List FieldLowering) : Type 0 where
-  IsWritten : (v : ExprLowering) (e : LoweredExpr) → value_written name ws ≡ Some v → v place ≡ Some e → equal_type t e.ty ≡ true → FieldFound place name t fs ws
-  IsUnwritten : value_written name ws ≡ None → is_in name (written_fields fs) ≡ false → FieldFound place name t fs ws
+data FieldFound (scope : CoreScope) (name : List ℕ) (t : DslxType) (fs : List FieldSeen) (ws : List FieldLowering) : Type 0 where
+  IsWritten : (v : ExprLowering) (e : LoweredExpr) → value_written name ws ≡ Some v → v scope ≡ Some e → equal_type t e.ty ≡ true → FieldFound scope name t fs ws
+  IsUnwritten : value_written name ws ≡ None → is_in name (written_fields fs) ≡ false → FieldFound scope name t fs ws
 
-module _ (here : Instance → Bool) (context : TypeEnv) (env : Env) (place : CoreScope) (h : IsWellTypedEnv context env) (at : ScopeMatchesEnv here context place) (S : DslxType) where
+module _ (here : Instance → Bool) (context : TypeEnv) (env : Env) (scope : CoreScope) (h : IsWellTypedEnv context env) (at : ScopeMatchesEnv here context scope) (S : DslxType) where
   field_found : (name : List ℕ) (t : DslxType) → field_type (Some S) name ≡ Some t → IsDeclared (types_at context) t → (fs : List FieldSeen) (ws : List FieldLowering) → EachFieldLowers fs ws
-      → faults_of_all (map (field_typing context (Some S)) fs) ≡ [] → list_all here (reached_of_all (map (field_typing context (Some S)) fs)) ≡ true → FieldFound place name t fs ws
+      → faults_of_all (map (field_typing context (Some S)) fs) ≡ [] → list_all here (reached_of_all (map (field_typing context (Some S)) fs)) ≡ true → FieldFound scope name t fs ws
   field_found name t e d [] [] k f r = IsUnwritten refl refl
   field_found name t e d [] (w ∷ ws) k f r = absurd k
   field_found name t e d (g ∷ gs) [] k f r = absurd k
@@ -96,9 +96,9 @@ module _ (here : Instance → Bool) (context : TypeEnv) (env : Env) (place : Cor
       q : (list_all here j.reached ≡ true) × (list_all here (reached_of_all (map (field_typing context (Some S)) gs)) ≡ true)
       q = all_in here j.reached (reached_of_all (map (field_typing context (Some S)) gs)) r
 
-      by_name : (b : Bool) → bytes_eq name w.name ≡ b → FieldFound place name t gs ws → FieldFound place name t (g ∷ gs) (w ∷ ws)
+      by_name : (b : Bool) → bytes_eq name w.name ≡ b → FieldFound scope name t gs ws → FieldFound scope name t (g ∷ gs) (w ∷ ws)
       by_name true is rest =
-          let v = k.0.lowers here context (Some S) env place h at (record { faults = p.0; reached = q.0 }) in
+          let v = k.0.lowers here context (Some S) env scope h at (record { faults = p.0; reached = q.0 }) in
           let same = wanted_in context (Some S) g p.0 in
           let own : field_type (Some S) g.name.name ≡ Some t = ap (field_type (Some S)) (k.0.name ∙ sym ((bytes_eq-Decides name w.name).0 is)) ∙ e in
           let like = passed (same_type t v.expr.ty) 9 same.0 ((λ i. wanted_faults same.0 (sym own i) (sym v.typed i)) ∙ same.1) in
@@ -118,7 +118,7 @@ module _ (here : Instance → Bool) (context : TypeEnv) (env : Env) (place : Cor
       let j = field_typing context (Some S) g in
       let p = none_in j.faults (faults_of_all (map (field_typing context (Some S)) gs)) f in
       let q = all_in here j.reached (reached_of_all (map (field_typing context (Some S)) gs)) r in
-      let v = k.0.lowers here context (Some S) env place h at (record { faults = p.0; reached = q.0 }) in
+      let v = k.0.lowers here context (Some S) env scope h at (record { faults = p.0; reached = q.0 }) in
       let more = fields_typed gs ws k.1 p.1 q.1 in
       (v.expr.ty ∷ more.0, λ i. v.typed i ∷ more.1 i)
 
@@ -137,24 +137,24 @@ EachOther others fs (n ∷ ns) [] = ⊥
 
 -- each field is found among those that are written, or not
 abbrev EachFound : CoreScope → List FieldSeen → List FieldLowering → List (List ℕ) → List DslxType → Type 0
-EachFound place fs ws [] [] = Unit {0}
-EachFound place fs ws (n ∷ ns) (t ∷ ts) = FieldFound place n t fs ws × EachFound place fs ws ns ts
-EachFound place fs ws [] (t ∷ ts) = ⊥
-EachFound place fs ws (n ∷ ns) [] = ⊥
+EachFound scope fs ws [] [] = Unit {0}
+EachFound scope fs ws (n ∷ ns) (t ∷ ts) = FieldFound scope n t fs ws × EachFound scope fs ws ns ts
+EachFound scope fs ws [] (t ∷ ts) = ⊥
+EachFound scope fs ws (n ∷ ns) [] = ⊥
 
-fields_there : (place : CoreScope) (fs : List FieldSeen) (ws : List FieldLowering) (others : Option LoweredExpr) (ns : List (List ℕ)) (ts : List DslxType)
-    → EachFound place fs ws ns ts → EachOther others fs ns ts → (es : List LoweredExpr) × (lower_fields place ws others ns ts ≡ Some es)
-fields_there place fs ws others [] [] k o = ([], refl)
-fields_there place fs ws others [] (t ∷ ts) k o = absurd k
-fields_there place fs ws others (n ∷ ns) [] k o = absurd k
-fields_there place fs ws others (n ∷ ns) (t ∷ ts) k o =
+fields_there : (scope : CoreScope) (fs : List FieldSeen) (ws : List FieldLowering) (others : Option LoweredExpr) (ns : List (List ℕ)) (ts : List DslxType)
+    → EachFound scope fs ws ns ts → EachOther others fs ns ts → (es : List LoweredExpr) × (lower_fields scope ws others ns ts ≡ Some es)
+fields_there scope fs ws others [] [] k o = ([], refl)
+fields_there scope fs ws others [] (t ∷ ts) k o = absurd k
+fields_there scope fs ws others (n ∷ ns) [] k o = absurd k
+fields_there scope fs ws others (n ∷ ns) (t ∷ ts) k o =
     let first = one k.0 in
-    let rest = fields_there place fs ws others ns ts k.1 o.1 in
+    let rest = fields_there scope fs ws others ns ts k.1 o.1 in
     (first.0 ∷ rest.0, λ i. with_both (first.1 i) (rest.1 i) (λ e es. Some (e ∷ es)))
   where
-    one : FieldFound place n t fs ws → (e : LoweredExpr) × (of_type t (field_or_other place others n (value_written n ws)) ≡ Some e)
-    one (IsWritten v e s u same) = (e, ap (λ w. of_type t (field_or_other place others n w)) s ∙ ap (of_type t) u ∙ ap (λ b. where_true b (Some e)) same)
-    one (IsUnwritten s u) = let g = o.0 u in (g.0, ap (λ w. of_type t (field_or_other place others n w)) s ∙ ap (of_type t) g.1 ∙ ap (λ b. where_true b (Some g.0)) g.2)
+    one : FieldFound scope n t fs ws → (e : LoweredExpr) × (of_type t (field_or_other scope others n (value_written n ws)) ≡ Some e)
+    one (IsWritten v e s u same) = (e, ap (λ w. of_type t (field_or_other scope others n w)) s ∙ ap (of_type t) u ∙ ap (λ b. where_true b (Some e)) same)
+    one (IsUnwritten s u) = let g = o.0 u in (g.0, ap (λ w. of_type t (field_or_other scope others n w)) s ∙ ap (of_type t) g.1 ∙ ap (λ b. where_true b (Some g.0)) g.2)
 
 -- where all are written
 all_written : (fs : List FieldSeen) (others : Option LoweredExpr) (names : List (List ℕ)) (types : List DslxType) (ns : List (List ℕ)) (ts : List DslxType) → OwnTypes names types ns ts → list_all (λ n. is_in n (written_fields fs)) ns ≡ true → EachOther others fs ns ts
@@ -182,16 +182,16 @@ others_give fs o e own names types is typed (n ∷ ns) (t ∷ ts) k =
     let g = typed_there (lower_field o n) t (field_typed o e t n is field) in
     ((λ u. (g.0, g.1, ap (equal_type t) g.2 ∙ equal_itself t)), others_give fs o e own names types is typed ns ts k.1)
 
-each_found : (here : Instance → Bool) (context : TypeEnv) (env : Env) (place : CoreScope) → IsWellTypedEnv context env → ScopeMatchesEnv here context place → (own : List ℕ) (names : List (List ℕ)) (types : List DslxType)
+each_found : (here : Instance → Bool) (context : TypeEnv) (env : Env) (scope : CoreScope) → IsWellTypedEnv context env → ScopeMatchesEnv here context scope → (own : List ℕ) (names : List (List ℕ)) (types : List DslxType)
     → (fs : List FieldSeen) (ws : List FieldLowering) → EachFieldLowers fs ws → faults_of_all (map (field_typing context (Some (ty.Struct own names types))) fs) ≡ []
     → list_all here (reached_of_all (map (field_typing context (Some (ty.Struct own names types))) fs)) ≡ true
-    → (ns : List (List ℕ)) (ts : List DslxType) → OwnTypes names types ns ts → AllDeclared (types_at context) ts → EachFound place fs ws ns ts
-each_found here context env place h at own names types fs ws k f r [] [] o d = tt
-each_found here context env place h at own names types fs ws k f r [] (t ∷ ts) o d = absurd o
-each_found here context env place h at own names types fs ws k f r (n ∷ ns) [] o d = absurd o
-each_found here context env place h at own names types fs ws k f r (n ∷ ns) (t ∷ ts) o d = (
-  field_found here context env place h at (ty.Struct own names types) n t (ap (λ l. struct_field_type l n) (views.outs-Struct own names types) ∙ o.0) d.0 fs ws k f r,
-  each_found here context env place h at own names types fs ws k f r ns ts o.1 d.1,
+    → (ns : List (List ℕ)) (ts : List DslxType) → OwnTypes names types ns ts → AllDeclared (types_at context) ts → EachFound scope fs ws ns ts
+each_found here context env scope h at own names types fs ws k f r [] [] o d = tt
+each_found here context env scope h at own names types fs ws k f r [] (t ∷ ts) o d = absurd o
+each_found here context env scope h at own names types fs ws k f r (n ∷ ns) [] o d = absurd o
+each_found here context env scope h at own names types fs ws k f r (n ∷ ns) (t ∷ ts) o d = (
+  field_found here context env scope h at (ty.Struct own names types) n t (ap (λ l. struct_field_type l n) (views.outs-Struct own names types) ∙ o.0) d.0 fs ws k f r,
+  each_found here context env scope h at own names types fs ws k f r ns ts o.1 d.1,
 )
 
 -- ---- struct values
@@ -202,24 +202,24 @@ ExprLowersIf (Some e) (Some x) = ExprLowers e x.1
 ExprLowersIf None (Some x) = ⊥
 ExprLowersIf (Some e) None = ⊥
 
--- the place where the value that gives the others is bound
-unnamed_beside : (here : Instance → Bool) (context : TypeEnv) (place : CoreScope) → ScopeMatchesEnv here context place → ScopeMatchesEnv here context (with_unnamed place)
-unnamed_beside here context place at = record { items = at.items; parametric_args = at.parametric_args; locals = at.locals; sound = at.sound; calls = at.calls; widths = at.widths; constants = at.constants }
+-- the scope where the value that gives the others is bound
+unnamed_beside : (here : Instance → Bool) (context : TypeEnv) (scope : CoreScope) → ScopeMatchesEnv here context scope → ScopeMatchesEnv here context (with_unnamed scope)
+unnamed_beside here context scope at = record { items = at.items; parametric_args = at.parametric_args; locals = at.locals; sound = at.sound; calls = at.calls; widths = at.widths; constants = at.constants }
 
 -- the fields give a value of the struct
-record FieldsHaveValues (context : TypeEnv) (place : CoreScope) (ws : List FieldLowering) (struct : DslxType) (names : List (List ℕ)) (types : List DslxType) (others : Option ExprPair) (rest : Option LoweredPair) : Type 0 where
-  is : type_of_lowered (struct_fields place ws (others_of rest) struct names types) ≡ Some struct
+record FieldsHaveValues (context : TypeEnv) (scope : CoreScope) (ws : List FieldLowering) (struct : DslxType) (names : List (List ℕ)) (types : List DslxType) (others : Option ExprPair) (rest : Option LoweredPair) : Type 0 where
+  is : type_of_lowered (struct_fields scope ws (others_of rest) struct names types) ≡ Some struct
   own : DslxType
   typed : (others_typing context (Some struct) others).ty ≡ Some own
 
-fields_have_values : (here : Instance → Bool) (context : TypeEnv) (env : Env) (place : CoreScope) → IsWellTypedEnv context env → ScopeMatchesEnv here context place
+fields_have_values : (here : Instance → Bool) (context : TypeEnv) (env : Env) (scope : CoreScope) → IsWellTypedEnv context env → ScopeMatchesEnv here context scope
     → (own : List ℕ) (names : List (List ℕ)) (types : List DslxType) → OwnTypes names types names types → IsDeclared (types_at context) (ty.Struct own names types)
     → (fs : List FieldSeen) (ws : List FieldLowering) → EachFieldLowers fs ws → faults_of_all (map (field_typing context (Some (ty.Struct own names types))) fs) ≡ []
     → list_all here (reached_of_all (map (field_typing context (Some (ty.Struct own names types))) fs)) ≡ true
     → (others : Option ExprPair) (rest : Option LoweredPair) → ExprLowersIf others rest → lacks_one names (written_fields fs) (is_there others) ≡ false
     → IsClean here (others_typing context (Some (ty.Struct own names types)) others).faults (others_typing context (Some (ty.Struct own names types)) others).reached
-    → FieldsHaveValues context place ws (ty.Struct own names types) names types others rest
-fields_have_values here context env place h at own names types each d fs ws kf f r others rest ko lacks clean = by_others others rest ko lacks clean
+    → FieldsHaveValues context scope ws (ty.Struct own names types) names types others rest
+fields_have_values here context env scope h at own names types each d fs ws kf f r others rest ko lacks clean = by_others others rest ko lacks clean
   where
     S : DslxType
     S = ty.Struct own names types
@@ -227,35 +227,35 @@ fields_have_values here context env place h at own names types each d fs ws kf f
     parts : AllDeclared (types_at context) types
     parts = h.known.parts.fields own own names types (struct_declared (types_at context) own names types d)
 
-    without : list_all (λ n. is_in n (written_fields fs)) names ≡ true → type_of_lowered (without_others place ws S names types) ≡ Some S
+    without : list_all (λ n. is_in n (written_fields fs)) names ≡ true → type_of_lowered (without_others scope ws S names types) ≡ Some S
     without all =
-        let es = fields_there place fs ws None names types (each_found here context env place h at own names types fs ws kf f r names types each parts) (all_written fs None names types names types each all) in
+        let es = fields_there scope fs ws None names types (each_found here context env scope h at own names types fs ws kf f r names types each parts) (all_written fs None names types names types each all) in
         ap (λ o. type_of_lowered (and_then o (λ es. lowered (core.Tuple (cores_of es)) S))) es.1
 
-    within_others : (e : LoweredExpr) → e.ty ≡ S → type_of_lowered (with_others place e ws S names types) ≡ Some S
+    within_others : (e : LoweredExpr) → e.ty ≡ S → type_of_lowered (with_others scope e ws S names types) ≡ Some S
     within_others e same =
-        let o = lowered (core.Slot place.count) e.ty in
-        let es = fields_there (with_unnamed place) fs ws o names types (each_found here context env (with_unnamed place) h (unnamed_beside here context place at) own names types fs ws kf f r names types each parts)
-        (others_give fs o (record { core = core.Slot place.count; ty = e.ty }) own names types refl same names types each) in
+        let o = lowered (core.Slot scope.count) e.ty in
+        let es = fields_there (with_unnamed scope) fs ws o names types (each_found here context env (with_unnamed scope) h (unnamed_beside here context scope at) own names types fs ws kf f r names types each parts)
+        (others_give fs o (record { core = core.Slot scope.count; ty = e.ty }) own names types refl same names types each) in
         ap (λ o. type_of_lowered (and_then o (λ es. lowered (core.Bind e.core shape.Bound (core.Tuple (cores_of es))) S))) es.1
 
-    by_all : (l : ExprLowering) (e : LoweredExpr) → l place ≡ Some e → e.ty ≡ S → (b : Bool) → list_all (λ n. is_in n (written_fields fs)) names ≡ b
-        → type_of_lowered (if b then without_others place ws S names types else and_then (l place) (λ e. with_others place e ws S names types)) ≡ Some S
+    by_all : (l : ExprLowering) (e : LoweredExpr) → l scope ≡ Some e → e.ty ≡ S → (b : Bool) → list_all (λ n. is_in n (written_fields fs)) names ≡ b
+        → type_of_lowered (if b then without_others scope ws S names types else and_then (l scope) (λ e. with_others scope e ws S names types)) ≡ Some S
     by_all l e is same true q = without q
-    by_all l e is same false q = ap (λ o. type_of_lowered (and_then o (λ e. with_others place e ws S names types))) is ∙ within_others e same
+    by_all l e is same false q = ap (λ o. type_of_lowered (and_then o (λ e. with_others scope e ws S names types))) is ∙ within_others e same
 
     by_others : (others : Option ExprPair) (rest : Option LoweredPair) → ExprLowersIf others rest → lacks_one names (written_fields fs) (is_there others) ≡ false
-        → IsClean here (others_typing context (Some S) others).faults (others_typing context (Some S) others).reached → FieldsHaveValues context place ws S names types others rest
+        → IsClean here (others_typing context (Some S) others).faults (others_typing context (Some S) others).reached → FieldsHaveValues context scope ws S names types others rest
     by_others None None k lacks clean = record { is = without (none_lacks (written_fields fs) names lacks); own = S; typed = refl }
     by_others None (Some x) k lacks clean = absurd k
     by_others (Some e) None k lacks clean = absurd k
     by_others (Some e) (Some x) k lacks clean =
         let a = alone context e in
         let p = none_in a.faults (wanted_faults (span_of e) (Some S) a.ty) clean.faults in
-        let g = alone_lowers_to here context env place e x.1 k h at p.0 clean.reached in
+        let g = alone_lowers_to here context env scope e x.1 k h at p.0 clean.reached in
         let same = passed (same_type S g.expr.ty) 9 (span_of e) (ap (wanted_faults (span_of e) (Some S)) (sym g.typed) ∙ p.1) in
         record {
-          is = ap (λ written. type_of_lowered (if list_all (λ n. is_in n written) names then without_others place ws S names types else and_then (x.1 place) (λ e. with_others place e ws S names types))) (names_same fs ws kf)
+          is = ap (λ written. type_of_lowered (if list_all (λ n. is_in n written) names then without_others scope ws S names types else and_then (x.1 scope) (λ e. with_others scope e ws S names types))) (names_same fs ws kf)
               ∙ by_all x.1 g.expr g.is (sym (one_of_text (types_at context) S g.expr.ty same d g.declared)) (list_all (λ n. is_in n (written_fields fs)) names) refl;
           own = g.expr.ty;
           typed = g.typed;
@@ -263,11 +263,11 @@ fields_have_values here context env place h at own names types each d fs ws kf f
 
 pub lower_total_struct : (span : Span) (name : Ident) (fields : List FieldSeen) (ws : List FieldLowering) (others : Option ExprPair) (rest : Option LoweredPair) → EachFieldLowers fields ws → ExprLowersIf others rest
     → PartLowers (λ context. struct_typing span context name fields others)
-    (λ place. and_then (place.known.items.struct_named name.name) (λ t. lower_struct_in place ws (others_of rest) (out-DslxType t)))
-lower_total_struct span name fields ws others rest kf ko here context env place h at well_typed = by_struct (as_struct (item_named name.name context.known.whole.items)) refl well_typed
+    (λ scope. and_then (scope.known.items.struct_named name.name) (λ t. lower_struct_in scope ws (others_of rest) (out-DslxType t)))
+lower_total_struct span name fields ws others rest kf ko here context env scope h at well_typed = by_struct (as_struct (item_named name.name context.known.whole.items)) refl well_typed
   where
     By : Judgement → Type 0
-    By j = type_of_lowered (and_then (place.known.items.struct_named name.name) (λ t. lower_struct_in place ws (others_of rest) (out-DslxType t))) ≡ j.ty
+    By j = type_of_lowered (and_then (scope.known.items.struct_named name.name) (λ t. lower_struct_in scope ws (others_of rest) (out-DslxType t))) ≡ j.ty
 
     of_struct : (declared : Struct) → IsStructKnown (types_at context) declared (context.known.items.struct_named name.name) → (own : Option DslxType) → context.known.items.struct_named name.name ≡ own
         → IsWellTypedPart (reaching context.known here) (struct_with span context name fields others own declared) → By (struct_with span context name fields others own declared)
@@ -300,11 +300,11 @@ lower_total_struct span name fields ws others rest kf ko here context env place 
             let q = none_in_three cyclic (faults_of_all js) other.faults p.0 in
             let r = all_in here (reached_of_all js) other.reached s.reached in
             let lacks = (or_false (has_twice (written_fields fields)) (lacks_one names (written_fields fields) (is_there others)) (not_broken (has_twice (written_fields fields) || lacks_one names (written_fields fields) (is_there others)) 22 span p.2)).1 in
-            let ts = fields_typed here context env place h at S fields ws kf q.1 r.0 in
-            let o = fields_have_values here context env place h at k.own k.names k.fields k.each k.declared fields ws kf q.1 r.0 others rest ko (ap (λ ns. lacks_one ns (written_fields fields) (is_there others)) (sym k.written) ∙ lacks)
+            let ts = fields_typed here context env scope h at S fields ws kf q.1 r.0 in
+            let o = fields_have_values here context env scope h at k.own k.names k.fields k.each k.declared fields ws kf q.1 r.0 others rest ko (ap (λ ns. lacks_one ns (written_fields fields) (is_there others)) (sym k.written) ∙ lacks)
             (record { faults = q.2; reached = r.1 }) in
-            ap (λ o. type_of_lowered (and_then o (λ t. lower_struct_in place ws (others_of rest) (out-DslxType t)))) (ap (λ (items : Meanings). items.struct_named name.name) at.items ∙ k.is)
-            ∙ ap (λ l. type_of_lowered (lower_struct_in place ws (others_of rest) l)) (views.outs-Struct k.own k.names k.fields)
+            ap (λ o. type_of_lowered (and_then o (λ t. lower_struct_in scope ws (others_of rest) (out-DslxType t)))) (ap (λ (items : Meanings). items.struct_named name.name) at.items ∙ k.is)
+            ∙ ap (λ l. type_of_lowered (lower_struct_in scope ws (others_of rest) l)) (views.outs-Struct k.own k.names k.fields)
             ∙ o.is
             ∙ sym (s.ty ∙ (λ i. when_all (o.typed i ∷ ts.1 i) (Some S)) ∙ ap (λ o. and_then o (λ ts. Some S)) (all_are (o.own ∷ ts.0)))
 

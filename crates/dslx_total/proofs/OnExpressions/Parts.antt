@@ -35,8 +35,8 @@ all_sound here sound h (i ∷ is) e = let q = and_true (here i) (list_all here i
     both true b = b
     both false b = false
 
-pub well_typed_there : (here : Instance → Bool) (context : TypeEnv) (place : CoreScope) (j : Judgement) → ScopeMatchesEnv here context place → IsWellTypedPart (reaching context.known here) j → IsWellTypedPart context.known j
-well_typed_there here context place j at well_typed = record { faults = well_typed.faults; reached = all_sound here context.known.is_sound at.sound j.reached well_typed.reached }
+pub well_typed_there : (here : Instance → Bool) (context : TypeEnv) (scope : CoreScope) (j : Judgement) → ScopeMatchesEnv here context scope → IsWellTypedPart (reaching context.known here) j → IsWellTypedPart context.known j
+well_typed_there here context scope j at well_typed = record { faults = well_typed.faults; reached = all_sound here context.known.is_sound at.sound j.reached well_typed.reached }
 
 -- ---- what a part becomes
 
@@ -68,18 +68,18 @@ becomes types j o v t is g l narrow =
     }
 
 -- inside another expression
-pub within_lowers_to : (here : Instance → Bool) (context : TypeEnv) (env : Env) (place : CoreScope) (e : ExprPair) (l : ExprLowering) → ExprLowers e l → IsWellTypedEnv context env → ScopeMatchesEnv here context place
-    → IsWellTypedPart (reaching context.known here) (within context e) → LowersTo (types_at context) (within context e) (l place)
-within_lowers_to here context env place e l s h at well_typed =
-    let g = s.gives.gives context env h (well_typed_there here context place (within context e) at well_typed) in
-    becomes (types_at context) (within context e) (l place) (s.meaning.value env) g.0 g.1 g.2 (s.lowers here context env place h at well_typed) (s.limited context well_typed.faults g.0 g.1)
+pub within_lowers_to : (here : Instance → Bool) (context : TypeEnv) (env : Env) (scope : CoreScope) (e : ExprPair) (l : ExprLowering) → ExprLowers e l → IsWellTypedEnv context env → ScopeMatchesEnv here context scope
+    → IsWellTypedPart (reaching context.known here) (within context e) → LowersTo (types_at context) (within context e) (l scope)
+within_lowers_to here context env scope e l s h at well_typed =
+    let g = s.gives.gives context env h (well_typed_there here context scope (within context e) at well_typed) in
+    becomes (types_at context) (within context e) (l scope) (s.meaning.value env) g.0 g.1 g.2 (s.lowers here context env scope h at well_typed) (s.limited context well_typed.faults g.0 g.1)
 
 -- where it stands alone
-pub alone_lowers_to : (here : Instance → Bool) (context : TypeEnv) (env : Env) (place : CoreScope) (e : ExprPair) (l : ExprLowering) → ExprLowers e l → IsWellTypedEnv context env → ScopeMatchesEnv here context place
-    → (alone context e).faults ≡ [] → list_all here (alone context e).reached ≡ true → LowersTo (types_at context) (alone context e) (l place)
-alone_lowers_to here context env place e l s h at faults reached =
+pub alone_lowers_to : (here : Instance → Bool) (context : TypeEnv) (env : Env) (scope : CoreScope) (e : ExprPair) (l : ExprLowering) → ExprLowers e l → IsWellTypedEnv context env → ScopeMatchesEnv here context scope
+    → (alone context e).faults ≡ [] → list_all here (alone context e).reached ≡ true → LowersTo (types_at context) (alone context e) (l scope)
+alone_lowers_to here context env scope e l s h at faults reached =
     let a = alone_well_typed (reaching context.known here) (span_of e) (within context e) (record { faults = faults; reached = reached }) in
-    let b = within_lowers_to here context env place e l s h at a.well_typed in
+    let b = within_lowers_to here context env scope e l s h at a.well_typed in
     record { expr = b.expr; is = b.is; typed = a.same_type ∙ b.typed; declared = b.declared; value = b.value; given = b.given; narrow = b.narrow }
 
 -- a written type
@@ -90,8 +90,8 @@ pub record LowersToType (types : Declarations) (j : Judgement) (o : Option DslxT
   pub declared : IsDeclared types ty
   pub wide : (kind : BitKind) → bits_in ty ≡ Some kind → nat_lt 0 kind.width ≡ true
 
-pub type_lowers_to : (here : Instance → Bool) (context : TypeEnv) (env : Env) (place : CoreScope) (j : TypeExprTyping) (l : TypeLowering) → WrittenLowers j l → IsWellTypedEnv context env → ScopeMatchesEnv here context place
-    → IsWellTypedPart (reaching context.known here) (j context) → LowersToType (types_at context) (j context) (l place)
-type_lowers_to here context env place j l s h at well_typed =
-    let t = s.stands.known context env h (well_typed_there here context place (j context) at well_typed) in
-    record { ty = t.0; is = s.lowers here context env place h at well_typed ∙ t.1; typed = t.1; declared = (s.stands.means context env h t.0 t.1).1; wide = λ kind q. own_width t.0 (s.wide context at.widths t.0 t.1) kind q }
+pub type_lowers_to : (here : Instance → Bool) (context : TypeEnv) (env : Env) (scope : CoreScope) (j : TypeExprTyping) (l : TypeLowering) → WrittenLowers j l → IsWellTypedEnv context env → ScopeMatchesEnv here context scope
+    → IsWellTypedPart (reaching context.known here) (j context) → LowersToType (types_at context) (j context) (l scope)
+type_lowers_to here context env scope j l s h at well_typed =
+    let t = s.stands.known context env h (well_typed_there here context scope (j context) at well_typed) in
+    record { ty = t.0; is = s.lowers here context env scope h at well_typed ∙ t.1; typed = t.1; declared = (s.stands.means context env h t.0 t.1).1; wide = λ kind q. own_width t.0 (s.wide context at.widths t.0 t.1) kind q }

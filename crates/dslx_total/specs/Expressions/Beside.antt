@@ -66,11 +66,11 @@ typed_slots ls = map (λ (l : BoundSlot). record { name = l.name; ty = Some l.ty
 
 -- the scope matches the type environment: items and parametrics have the same denotations, the same names are bound with the same types,
 -- and calls of these instances, which are well-typed, have a callee
-pub record ScopeMatchesEnv (here : Instance → Bool) (context : TypeEnv) (place : CoreScope) : Type 0 where
-  pub items : place.known.items ≡ context.known.items
-  pub parametric_args : place.known.parametric_args ≡ context.parametric_args
-  pub locals : typed_slots place.locals ≡ context.locals
+pub record ScopeMatchesEnv (here : Instance → Bool) (context : TypeEnv) (scope : CoreScope) : Type 0 where
+  pub items : scope.known.items ≡ context.known.items
+  pub parametric_args : scope.known.parametric_args ≡ context.parametric_args
+  pub locals : typed_slots scope.locals ≡ context.locals
   pub sound : (i : Instance) → here i ≡ true → context.known.is_sound i ≡ true
-  pub calls : CallsAreKnown here context.known place.known
+  pub calls : CallsAreKnown here context.known scope.known
   pub widths : NamesHaveWidths context.known
   pub constants : ConstantsAreDeclared context.known

@@ -36,8 +36,8 @@ reaching known here = record known { is_sound = here }
 
 -- an expression, a block or a loop: where it is well-typed, what it is lowered to has its type
 abbrev pub PartLowers : TypeExprTyping → ExprLowering → Type 0
-PartLowers j l = (here : Instance → Bool) (context : TypeEnv) (env : Env) (place : CoreScope) → IsWellTypedEnv context env → ScopeMatchesEnv here context place → IsWellTypedPart (reaching context.known here) (j context)
-    → type_of_lowered (l place) ≡ (j context).ty
+PartLowers j l = (here : Instance → Bool) (context : TypeEnv) (env : Env) (scope : CoreScope) → IsWellTypedEnv context env → ScopeMatchesEnv here context scope → IsWellTypedPart (reaching context.known here) (j context)
+    → type_of_lowered (l scope) ≡ (j context).ty
 
 -- it is lowered to an expression of the type that it has
 pub record LowersAsTyped (j : Judgement) (o : Option LoweredExpr) : Type 0 where
@@ -47,8 +47,8 @@ pub record LowersAsTyped (j : Judgement) (o : Option LoweredExpr) : Type 0 where
 
 -- in each scope that matches the type environment, where it is well-typed
 abbrev pub LowersWhereWellTyped : TypeExprTyping → ExprLowering → Type 0
-LowersWhereWellTyped j l = (here : Instance → Bool) (context : TypeEnv) (env : Env) (place : CoreScope) → IsWellTypedEnv context env → ScopeMatchesEnv here context place → IsWellTypedPart (reaching context.known here) (j context)
-    → LowersAsTyped (j context) (l place)
+LowersWhereWellTyped j l = (here : Instance → Bool) (context : TypeEnv) (env : Env) (scope : CoreScope) → IsWellTypedEnv context env → ScopeMatchesEnv here context scope → IsWellTypedPart (reaching context.known here) (j context)
+    → LowersAsTyped (j context) (l scope)
 
 -- where it has no fault its type keeps the limit on words
 abbrev pub KeepsLimits : List Fault → Option DslxType → Type 0
@@ -68,8 +68,8 @@ pub record ExprLowers (e : ExprPair) (l : ExprLowering) : Type 0 where
 
 -- a written type is the same in both
 abbrev pub TypeLowers : TypeExprTyping → TypeLowering → Type 0
-TypeLowers j l = (here : Instance → Bool) (context : TypeEnv) (env : Env) (place : CoreScope) → IsWellTypedEnv context env → ScopeMatchesEnv here context place → IsWellTypedPart (reaching context.known here) (j context)
-    → l place ≡ (j context).ty
+TypeLowers j l = (here : Instance → Bool) (context : TypeEnv) (env : Env) (scope : CoreScope) → IsWellTypedEnv context env → ScopeMatchesEnv here context scope → IsWellTypedPart (reaching context.known here) (j context)
+    → l scope ≡ (j context).ty
 
 -- all bits in it have a width
 abbrev pub IsWide : TypeExprTyping → Type 0
@@ -82,8 +82,8 @@ pub record TypeLowersAsTyped (j : Judgement) (o : Option DslxType) : Type 0 wher
   pub typed : j.ty ≡ Some ty
 
 abbrev pub TypeLowersWhereWellTyped : TypeExprTyping → TypeLowering → Type 0
-TypeLowersWhereWellTyped j l = (here : Instance → Bool) (context : TypeEnv) (env : Env) (place : CoreScope) → IsWellTypedEnv context env → ScopeMatchesEnv here context place → IsWellTypedPart (reaching context.known here) (j context)
-    → TypeLowersAsTyped (j context) (l place)
+TypeLowersWhereWellTyped j l = (here : Instance → Bool) (context : TypeEnv) (env : Env) (scope : CoreScope) → IsWellTypedEnv context env → ScopeMatchesEnv here context scope → IsWellTypedPart (reaching context.known here) (j context)
+    → TypeLowersAsTyped (j context) (l scope)
 
 pub record WrittenLowers (j : TypeExprTyping) (l : TypeLowering) : Type 0 where
   pub meaning : TypeDen
@@ -93,8 +93,8 @@ pub record WrittenLowers (j : TypeExprTyping) (l : TypeLowering) : Type 0 where
 
 -- a number that is written with its type is a value of it
 abbrev pub NumberLowers : TypeExprTyping → (CoreScope → Option DslxValue) → Type 0
-NumberLowers j l = (here : Instance → Bool) (context : TypeEnv) (env : Env) (place : CoreScope) → IsWellTypedEnv context env → ScopeMatchesEnv here context place → IsWellTypedPart (reaching context.known here) (j context)
-    → option_map type_of_value (l place) ≡ (j context).ty
+NumberLowers j l = (here : Instance → Bool) (context : TypeEnv) (env : Env) (scope : CoreScope) → IsWellTypedEnv context env → ScopeMatchesEnv here context scope → IsWellTypedPart (reaching context.known here) (j context)
+    → option_map type_of_value (l scope) ≡ (j context).ty
 
 -- ---- patterns
 
@@ -107,14 +107,14 @@ pub record IsClean (here : Instance → Bool) (named : List Fault) (found : List
 pub record ShapeExists (here : Instance → Bool) (context : TypeEnv) (o : Option LoweredShape) : Type 0 where
   pub shape : LoweredShape
   pub is : o ≡ Some shape
-  pub behind : ScopeMatchesEnv here context shape.place
+  pub behind : ScopeMatchesEnv here context shape.scope
 
 -- a pattern, within a pattern that stands in an outer scope, behind what is bound so far
 pub record PatternLowers (p : PatternTyping) (l : PatternLowering) : Type 0 where
-  pub lowers : (here : Instance → Bool) (may_fail : Bool) (context : TypeEnv) (t : DslxType) (names : List (List ℕ)) (locals : List Typed) (env : Env) (outer place : CoreScope)
-      → IsWellTypedEnv context env → ScopeMatchesEnv here context outer → ScopeMatchesEnv here (with_typed context locals) place → IsDeclared (types_at context) t
+  pub lowers : (here : Instance → Bool) (may_fail : Bool) (context : TypeEnv) (t : DslxType) (names : List (List ℕ)) (locals : List Typed) (env : Env) (outer scope : CoreScope)
+      → IsWellTypedEnv context env → ScopeMatchesEnv here context outer → ScopeMatchesEnv here (with_typed context locals) scope → IsDeclared (types_at context) t
       → IsClean here (p may_fail context (Some t) names locals).faults (p may_fail context (Some t) names locals).reached
-      → ShapeExists here (with_typed context (p may_fail context (Some t) names locals).locals) (l.lower outer place t)
+      → ShapeExists here (with_typed context (p may_fail context (Some t) names locals).locals) (l.lower outer scope t)
   -- where it binds nothing its names are constants'
   pub unbound : (may_fail : Bool) (context : TypeEnv) (t : Option DslxType) (names : List (List ℕ)) (locals : List Typed) → is_empty (p may_fail context t names locals).names ≡ true
       → (list_all context.known.items.is_constant l.names ≡ true) × (is_empty names ≡ true)

@@ -22,9 +22,9 @@ ghost use Rattle.dslx_core.specs.Typing.Typed.WellTyped.{IsWellTypedEnv, types_a
 /// The well-typed block of `next`, in which effects may stand, where each member in scope is an end of the
 /// proc whose words a channel holds: it is lowered to steps, and the next state has the type that the block has.
 pub fn lower_total_next_block()
-    ensures { (b : Block) (here : Instance → Bool) (context : TypeEnv) (env : Env) (outer place : CoreScope) (ends : List End)
-        → IsWellTypedEnv context env → ScopeMatchesEnv here context place → MembersExist context outer ends → IsWellTypedPart (reaching context.known here) ((block_pair b).1 true context)
-        → LowersToSteps (types_at context) ((block_pair b).1 true context) (statements_steps outer ends (out-Block b).statements (out-Block b).value place) }
+    ensures { (b : Block) (here : Instance → Bool) (context : TypeEnv) (env : Env) (outer scope : CoreScope) (ends : List End)
+        → IsWellTypedEnv context env → ScopeMatchesEnv here context scope → MembersExist context outer ends → IsWellTypedPart (reaching context.known here) ((block_pair b).1 true context)
+        → LowersToSteps (types_at context) ((block_pair b).1 true context) (statements_steps outer ends (out-Block b).statements (out-Block b).value scope) }
 {}
 
 /// The `next` of an instance of a proc whose text outside its `config` is well-typed: where its parametrics have values

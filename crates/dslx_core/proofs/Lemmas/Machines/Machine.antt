@@ -9,7 +9,7 @@ pub mod Options
 pub mod Scopes
 -- trees beside what they become
 pub mod Rebuilt
--- what is the same at several places
+-- what is the same in several scopes
 pub mod Steady
 use Rattle.std.proofs.Common.{◌≡◌, ℕ, List, Option, Some, None, refl, subst, ap, ◌∙◌}
 use Rattle.dslx_tree.specs.declared.expr.Expr.{Expr}

@@ -1,4 +1,4 @@
--- The induction on all sorts of parts of a tree: each is alike at two places that differ in what calls come to.
+-- The induction on all sorts of parts of a tree: each is alike in two scopes that differ in what calls come to.
 use Rattle.std.proofs.Common.{◌≡◌, Bool, List, [], ◌∷◌, map, Option, Some, None, refl, sym, subst, ◌∙◌}
 use Rattle.dslx_tree.specs.declared.block.Block.{Block}
 use Rattle.dslx_tree.specs.declared.block.Stmt.{Stmt}
@@ -91,25 +91,25 @@ module _ (more : Bool) (c d : CalleesByName) (calls : CallsAlike more c d) where
   shape_keeps : (x : ShapeLevel Parts) → PatternIsSteady (lower_shape (map_shape Parts become first x))
   shape_keeps x = subst (λ y. PatternIsSteady (lower_shape y)) (map_shape-twice Parts s.Part become (firsts become alone steady) fewer x) (shape_steady (map_shape Parts s.Part fewer x))
 
-  -- what knows no calls is the same at both places
-  same_at : {A : Type 0} (l : CoreScope → Option A) → KnowsNoCallee l → (place : CoreScope) → l (with_callee c place) ≡ l (with_callee d place)
-  same_at l h place = h place c ∙ sym (h place d)
+  -- what knows no calls is the same in both scopes
+  same_at : {A : Type 0} (l : CoreScope → Option A) → KnowsNoCallee l → (scope : CoreScope) → l (with_callee c scope) ≡ l (with_callee d scope)
+  same_at l h scope = h scope c ∙ sym (h scope d)
 
   -- ---- lists of parts
 
   abbrev pairs_of : List Parts.expr → List LoweredPair
   pairs_of ps = map (λ (p : Parts.expr). p.0) ps
 
-  each_expr : (ps : List Parts.expr) (place : CoreScope) → EachAlike more OneType (lower_all (with_callee c place) (pairs_of ps)) (lower_all (with_callee d place) (pairs_of ps))
-  each_expr [] place = tt
-  each_expr (p ∷ ps) place = (p.2 place, each_expr ps place)
+  each_expr : (ps : List Parts.expr) (scope : CoreScope) → EachAlike more OneType (lower_all (with_callee c scope) (pairs_of ps)) (lower_all (with_callee d scope) (pairs_of ps))
+  each_expr [] scope = tt
+  each_expr (p ∷ ps) scope = (p.2 scope, each_expr ps scope)
 
   abbrev elements_at : CoreScope → List Parts.expr → List Element
-  elements_at place ps = map (λ (e : LoweredPair). ((denotation e.0).bare, e.1 place)) (pairs_of ps)
+  elements_at scope ps = map (λ (e : LoweredPair). ((denotation e.0).bare, e.1 scope)) (pairs_of ps)
 
-  each_element : (ps : List Parts.expr) (place : CoreScope) → ElementsAlike more (elements_at (with_callee c place) ps) (elements_at (with_callee d place) ps)
-  each_element [] place = tt
-  each_element (p ∷ ps) place = (refl, p.2 place, each_element ps place)
+  each_element : (ps : List Parts.expr) (scope : CoreScope) → ElementsAlike more (elements_at (with_callee c scope) ps) (elements_at (with_callee d scope) ps)
+  each_element [] scope = tt
+  each_element (p ∷ ps) scope = (refl, p.2 scope, each_element ps scope)
 
   abbrev fields_of : List Parts.field → List FieldLowering
   fields_of ps = map (λ (f : FieldValue × FieldLowering). f.1) (map (λ (p : Parts.field). p.0) ps)
@@ -132,38 +132,38 @@ module _ (more : Bool) (c d : CalleesByName) (calls : CallsAlike more c d) where
   -- ---- expressions
 
   node_keeps : (x : NodeLevel Parts) → IsAlike more c d (lower_node (map_node Parts become first x))
-  node_keeps (Node-F.Node::Number n) place =
-      subst (λ o. ExprsAlike more (and_then (n.0.1 (with_callee c place)) literal) (and_then o literal)) (same_at n.0.1 n.2 place) (alike_itself more OneType _ (λ e. refl))
-  node_keeps (Node-F.Node::Bool b) place = both_there more OneType _ _ refl
-  node_keeps (Node-F.Node::Array None es dots) place = array_alike more place.count None _ _ dots (each_element es place)
-  node_keeps (Node-F.Node::Array (Some t) es dots) place =
-      subst (λ o. ExprsAlike more (lower_node (map_node Parts become first (Node-F.Node::Array (Some t) es dots)) (with_callee c place)) (lower_array place.count (Some o) (elements_at (with_callee d place) es) dots))
-      (same_at t.0.1 t.2 place) (array_alike more place.count (Some (t.0.1 (with_callee c place))) _ _ dots (each_element es place))
-  node_keeps (Node-F.Node::Name name) place = name_alike more c d name place
-  node_keeps (Node-F.Node::Member e a) place = alike_itself more OneType (and_then (place.known.items.member e.name a.name) literal) (λ e. refl)
-  node_keeps (Node-F.Call f parametric_args es) place =
-      call_alike more c d calls (kind_of_call f.name) f.name place (map (λ (a : Arg × Expr). constant_at place a.1) (map (λ (p : Parts.arg). p.0) parametric_args)) _ _ (each_expr es place)
-  node_keeps (Node-F.Node::Tuple es) place = tuple_alike more _ _ (each_expr es place)
-  node_keeps (Node-F.Struct name fields None) place =
-      then_same more OneType (place.known.items.struct_named name.name) _ _ (λ t. struct_alike more c d (fields_of fields) (each_field fields) None tt place (out-DslxType t))
-  node_keeps (Node-F.Struct name fields (Some rest)) place =
-      then_same more OneType (place.known.items.struct_named name.name) _ _ (λ t. struct_alike more c d (fields_of fields) (each_field fields) (Some rest.0.1) rest.2 place (out-DslxType t))
-  node_keeps (Node-F.Block b) place = b.2 place
-  node_keeps (Node-F.If test taken other) place = choice_alike more _ _ _ _ _ _ (test.2 place) (taken.2 place) (other.2 place)
-  node_keeps (Node-F.Match e arms) place = match_alike more c d e.0.1 (arms_of arms) e.2 (each_arm arms) place
-  node_keeps (Node-F.For loop) place = loop.2 place
-  node_keeps (Node-F.Index e i) place = index_alike more _ _ _ _ (e.2 place) (i.2 place)
-  node_keeps (Node-F.Slice e low high) place = slice_alike more _ _ (bound_at place low.0.0) (bound_at place high.0.0) (e.2 place)
-  node_keeps (Node-F.Part e start t) place =
-      subst (λ o. ExprsAlike more (lower_part (e.0.1 (with_callee c place)) (start.0.1 (with_callee c place)) (t.0.1 (with_callee c place))) (lower_part (e.0.1 (with_callee d place)) (start.0.1 (with_callee d place)) o))
-      (same_at t.0.1 t.2 place) (part_alike more _ _ _ _ (t.0.1 (with_callee c place)) (e.2 place) (start.2 place))
-  node_keeps (Node-F.Field e name) place = field_alike more _ _ name.name (e.2 place)
-  node_keeps (Node-F.Element e span k) place = element_alike more _ _ k (e.2 place)
-  node_keeps (Node-F.Prefix o e) place = prefix_alike more o _ _ (e.2 place)
-  node_keeps (Node-F.Cast e t) place =
-      subst (λ o. ExprsAlike more (lower_cast (e.0.1 (with_callee c place)) (t.0.1 (with_callee c place))) (lower_cast (e.0.1 (with_callee d place)) o)) (same_at t.0.1 t.2 place)
-      (cast_alike more _ _ (t.0.1 (with_callee c place)) (e.2 place))
-  node_keeps (Node-F.Binary o l r) place = binary_alike more o _ _ _ _ (l.2 place) (r.2 place)
+  node_keeps (Node-F.Node::Number n) scope =
+      subst (λ o. ExprsAlike more (and_then (n.0.1 (with_callee c scope)) literal) (and_then o literal)) (same_at n.0.1 n.2 scope) (alike_itself more OneType _ (λ e. refl))
+  node_keeps (Node-F.Node::Bool b) scope = both_there more OneType _ _ refl
+  node_keeps (Node-F.Node::Array None es dots) scope = array_alike more scope.count None _ _ dots (each_element es scope)
+  node_keeps (Node-F.Node::Array (Some t) es dots) scope =
+      subst (λ o. ExprsAlike more (lower_node (map_node Parts become first (Node-F.Node::Array (Some t) es dots)) (with_callee c scope)) (lower_array scope.count (Some o) (elements_at (with_callee d scope) es) dots))
+      (same_at t.0.1 t.2 scope) (array_alike more scope.count (Some (t.0.1 (with_callee c scope))) _ _ dots (each_element es scope))
+  node_keeps (Node-F.Node::Name name) scope = name_alike more c d name scope
+  node_keeps (Node-F.Node::Member e a) scope = alike_itself more OneType (and_then (scope.known.items.member e.name a.name) literal) (λ e. refl)
+  node_keeps (Node-F.Call f parametric_args es) scope =
+      call_alike more c d calls (kind_of_call f.name) f.name scope (map (λ (a : Arg × Expr). constant_at scope a.1) (map (λ (p : Parts.arg). p.0) parametric_args)) _ _ (each_expr es scope)
+  node_keeps (Node-F.Node::Tuple es) scope = tuple_alike more _ _ (each_expr es scope)
+  node_keeps (Node-F.Struct name fields None) scope =
+      then_same more OneType (scope.known.items.struct_named name.name) _ _ (λ t. struct_alike more c d (fields_of fields) (each_field fields) None tt scope (out-DslxType t))
+  node_keeps (Node-F.Struct name fields (Some rest)) scope =
+      then_same more OneType (scope.known.items.struct_named name.name) _ _ (λ t. struct_alike more c d (fields_of fields) (each_field fields) (Some rest.0.1) rest.2 scope (out-DslxType t))
+  node_keeps (Node-F.Block b) scope = b.2 scope
+  node_keeps (Node-F.If test taken other) scope = choice_alike more _ _ _ _ _ _ (test.2 scope) (taken.2 scope) (other.2 scope)
+  node_keeps (Node-F.Match e arms) scope = match_alike more c d e.0.1 (arms_of arms) e.2 (each_arm arms) scope
+  node_keeps (Node-F.For loop) scope = loop.2 scope
+  node_keeps (Node-F.Index e i) scope = index_alike more _ _ _ _ (e.2 scope) (i.2 scope)
+  node_keeps (Node-F.Slice e low high) scope = slice_alike more _ _ (bound_at scope low.0.0) (bound_at scope high.0.0) (e.2 scope)
+  node_keeps (Node-F.Part e start t) scope =
+      subst (λ o. ExprsAlike more (lower_part (e.0.1 (with_callee c scope)) (start.0.1 (with_callee c scope)) (t.0.1 (with_callee c scope))) (lower_part (e.0.1 (with_callee d scope)) (start.0.1 (with_callee d scope)) o))
+      (same_at t.0.1 t.2 scope) (part_alike more _ _ _ _ (t.0.1 (with_callee c scope)) (e.2 scope) (start.2 scope))
+  node_keeps (Node-F.Field e name) scope = field_alike more _ _ name.name (e.2 scope)
+  node_keeps (Node-F.Element e span k) scope = element_alike more _ _ k (e.2 scope)
+  node_keeps (Node-F.Prefix o e) scope = prefix_alike more o _ _ (e.2 scope)
+  node_keeps (Node-F.Cast e t) scope =
+      subst (λ o. ExprsAlike more (lower_cast (e.0.1 (with_callee c scope)) (t.0.1 (with_callee c scope))) (lower_cast (e.0.1 (with_callee d scope)) o)) (same_at t.0.1 t.2 scope)
+      (cast_alike more _ _ (t.0.1 (with_callee c scope)) (e.2 scope))
+  node_keeps (Node-F.Binary o l r) scope = binary_alike more o _ _ _ _ (l.2 scope) (r.2 scope)
 
   -- ---- statements, blocks, arms, loops and fields
 
@@ -182,15 +182,15 @@ module _ (more : Bool) (c d : CalleesByName) (calls : CallsAlike more c d) where
   block_keeps x = by x.value
     where
       by : (o : Option Parts.expr) → IsAlike more c d (lower_block (map_block Parts become first (record { span = x.span; statements = x.statements; value = o })))
-      by None = statements_keep x.statements (lower_last_value None) (λ place. both_there more OneType _ _ refl)
+      by None = statements_keep x.statements (lower_last_value None) (λ scope. both_there more OneType _ _ refl)
       by (Some e) = statements_keep x.statements (lower_last_value (Some e.0)) e.2
 
   arm_keeps : (x : ArmLevel Parts) → ArmIsAlike more c d (lower_arm_part (map_arm Parts become first x))
   arm_keeps x = record { patterns = each_pattern x.patterns; value = x.value.2 }
 
   loop_keeps : (x : ForLevel Parts) → IsAlike more c d (lower_for (map_loop Parts become first x))
-  loop_keeps x place =
-      loop_alike more c d x.start.0.1 x.from.0.1 (and_then (constant_at place x.from.0.0) bits_of) (and_then (constant_at place x.to.0.0) bits_of) x.index.0.1 x.accumulator.0.1 x.body.0.1 place
+  loop_keeps x scope =
+      loop_alike more c d x.start.0.1 x.from.0.1 (and_then (constant_at scope x.from.0.0) bits_of) (and_then (constant_at scope x.to.0.0) bits_of) x.index.0.1 x.accumulator.0.1 x.body.0.1 scope
       x.start.2 x.from.2 x.index.2 x.accumulator.2 x.body.2
 
   field_keeps : (x : FieldValueLevel Parts) → IsAlike more c d (lower_field_part (map_field Parts become first x)).value

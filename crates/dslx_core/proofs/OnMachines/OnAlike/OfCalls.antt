@@ -72,14 +72,14 @@ module _ (more : Bool) where
   -- ---- calls
 
   module _ (c d : CalleesByName) (calls : CallsAlike more c d) where
-    -- the types of the operands are the same at both places
+    -- the types of the operands are the same in both scopes
     callee_alike : (name : List ℕ) (given : List DslxValue) (es fs : List LoweredExpr) → Each OneType es fs
         → Alike more OneResult (c name given (types_of_lowered es)) (d name given (types_of_lowered fs))
     callee_alike name given es fs h = subst (λ types. Alike more OneResult (c name given (types_of_lowered es)) (d name given types)) (types_one es fs h) (calls name given (types_of_lowered es))
 
-    function_alike : (place : CoreScope) (name : List ℕ) (parametric_args : List (Option DslxValue)) (os qs : List (Option LoweredExpr)) → EachAlike more OneType os qs
-        → ExprsAlike more (lower_function (with_callee c place) name parametric_args os) (lower_function (with_callee d place) name parametric_args qs)
-    function_alike place name parametric_args os qs h =
+    function_alike : (scope : CoreScope) (name : List ℕ) (parametric_args : List (Option DslxValue)) (os qs : List (Option LoweredExpr)) → EachAlike more OneType os qs
+        → ExprsAlike more (lower_function (with_callee c scope) name parametric_args os) (lower_function (with_callee d scope) name parametric_args qs)
+    function_alike scope name parametric_args os qs h =
         both_alike more (λ (a b : List DslxValue). a ≡ b) (Each OneType) OneType (all_some parametric_args) (all_some parametric_args) (all_some os) (all_some qs) _ _
         (alike_itself more _ (all_some parametric_args) (λ a. refl)) (all_alike more OneType os qs h) (λ a b es fs is k. by a b es fs is k)
       where
@@ -91,18 +91,18 @@ module _ (more : Bool) where
             subst (λ x. ExprsAlike more (call c a es) (call d x fs)) is
             (then_alike more OneResult OneType _ _ _ _ (callee_alike name a es fs k) (λ x y r. both_there more OneType _ _ r))
 
-    pub call_alike : (kind : CallKind) (name : List ℕ) (place : CoreScope) (parametric_args : List (Option DslxValue)) (os qs : List (Option LoweredExpr)) → EachAlike more OneType os qs
-        → ExprsAlike more (lower_call kind name (with_callee c place) parametric_args os) (lower_call kind name (with_callee d place) parametric_args qs)
-    call_alike k.Joins name place parametric_args os qs h = then_alike more (Each OneType) OneType _ _ _ _ (all_alike more OneType os qs h) (λ es fs r. both_there more OneType _ _ refl)
-    call_alike k.Receives name place parametric_args os qs h = none_alike more OneType _
-    call_alike k.ReceivesIf name place parametric_args os qs h = none_alike more OneType _
-    call_alike k.Sends name place parametric_args os qs h = none_alike more OneType _
-    call_alike k.SendsIf name place parametric_args os qs h = none_alike more OneType _
-    call_alike k.CountsLeading name place parametric_args os qs h = counted_alike u.Clz os qs h
-    call_alike k.CountsTrailing name place parametric_args os qs h = counted_alike u.Ctz os qs h
-    call_alike k.Reverses name place parametric_args os qs h = counted_alike u.Rev os qs h
-    call_alike k.AllOnes name place parametric_args os qs h = reduced_alike u.AndReduce os qs h
-    call_alike k.SomeOne name place parametric_args os qs h = reduced_alike u.OrReduce os qs h
-    call_alike k.Parity name place parametric_args os qs h = reduced_alike u.XorReduce os qs h
-    call_alike k.Updates name place parametric_args os qs h = updated_alike os qs h
-    call_alike k.Calls name place parametric_args os qs h = function_alike place name parametric_args os qs h
+    pub call_alike : (kind : CallKind) (name : List ℕ) (scope : CoreScope) (parametric_args : List (Option DslxValue)) (os qs : List (Option LoweredExpr)) → EachAlike more OneType os qs
+        → ExprsAlike more (lower_call kind name (with_callee c scope) parametric_args os) (lower_call kind name (with_callee d scope) parametric_args qs)
+    call_alike k.Joins name scope parametric_args os qs h = then_alike more (Each OneType) OneType _ _ _ _ (all_alike more OneType os qs h) (λ es fs r. both_there more OneType _ _ refl)
+    call_alike k.Receives name scope parametric_args os qs h = none_alike more OneType _
+    call_alike k.ReceivesIf name scope parametric_args os qs h = none_alike more OneType _
+    call_alike k.Sends name scope parametric_args os qs h = none_alike more OneType _
+    call_alike k.SendsIf name scope parametric_args os qs h = none_alike more OneType _
+    call_alike k.CountsLeading name scope parametric_args os qs h = counted_alike u.Clz os qs h
+    call_alike k.CountsTrailing name scope parametric_args os qs h = counted_alike u.Ctz os qs h
+    call_alike k.Reverses name scope parametric_args os qs h = counted_alike u.Rev os qs h
+    call_alike k.AllOnes name scope parametric_args os qs h = reduced_alike u.AndReduce os qs h
+    call_alike k.SomeOne name scope parametric_args os qs h = reduced_alike u.OrReduce os qs h
+    call_alike k.Parity name scope parametric_args os qs h = reduced_alike u.XorReduce os qs h
+    call_alike k.Updates name scope parametric_args os qs h = updated_alike os qs h
+    call_alike k.Calls name scope parametric_args os qs h = function_alike scope name parametric_args os qs h

@@ -12,7 +12,7 @@ use Rattle.dslx_core.specs.Lowering.EqualTypes.{equal_type}
 use Rattle.dslx_core.specs.Lowering.Functions.{CoreInstance, Instantiated, LoweredFunction, argument_types, arguments_in_scope, lower_function_body, callee_in, instance_in, instance_globals, lower_instance, next_instance, parametric_args_are_well_typed, outer_scope}
 use Rattle.dslx_core.specs.Lowering.Trees.{lower_block_of_text}
 use Rattle.dslx_core.specs.Machines.Machine.Callees.{CalleesByName}
-use Rattle.dslx_core.proofs.Lemmas.Machines.Machine.Instances.{calling, placed_anywhere, types_anywhere}
+use Rattle.dslx_core.proofs.Lemmas.Machines.Machine.Instances.{arguments_anywhere, calling, types_anywhere}
 use Rattle.dslx_core.specs.Machines.Alike.Alike.{OfOneType}
 use Rattle.dslx_core.proofs.OnMachines.OnAlike.Joined.{block_alike}
 use Rattle.dslx_core.proofs.OnMachines.OnAlike.OfCalls.{CallsAlike, OneResult}
@@ -26,20 +26,20 @@ abbrev OneSignature : LoweredFunction → LoweredFunction → Type 0
 OneSignature l x = (l.arguments ≡ x.arguments) × (l.result ≡ x.result)
 
 module _ (more : Bool) (c d : CalleesByName) (calls : CallsAlike more c d) where
-  -- the place where arguments are bound is the same but for what calls come to
+  -- the scope where arguments are bound is the same but for what calls come to
   body_alike : (known : BodyEnv) (f : Function) (ts : List DslxType) → Alike more OneSignature (lower_function_body (calling known c) f ts) (lower_function_body (calling known d) f ts)
   body_alike known f ts =
-      subst (λ o. Alike more OneSignature (and_then o made) (lower_function_body (calling known d) f ts)) (sym (placed_anywhere known c f.arguments ts [] 0))
-      (subst (λ o. Alike more OneSignature (and_then (placed c (arguments_in_scope f.arguments ts (outer_scope known))) made) (and_then o made)) (sym (placed_anywhere known d f.arguments ts [] 0))
+      subst (λ o. Alike more OneSignature (and_then o made) (lower_function_body (calling known d) f ts)) (sym (arguments_anywhere known c f.arguments ts [] 0))
+      (subst (λ o. Alike more OneSignature (and_then (with_calls c (arguments_in_scope f.arguments ts (outer_scope known))) made) (and_then o made)) (sym (arguments_anywhere known d f.arguments ts [] 0))
       (by (arguments_in_scope f.arguments ts (outer_scope known))))
     where
-      placed : CalleesByName → Option CoreScope → Option CoreScope
-      placed c o = and_then o (λ p. Some (record { known = calling known c; locals = p.locals; count = p.count }))
+      with_calls : CalleesByName → Option CoreScope → Option CoreScope
+      with_calls c o = and_then o (λ p. Some (record { known = calling known c; locals = p.locals; count = p.count }))
 
       made : CoreScope → Option LoweredFunction
-      made place = and_then (lower_block_of_text f.body place) (λ e. Some (record { arguments = ts; result = e.ty; body = e.core }))
+      made scope = and_then (lower_block_of_text f.body scope) (λ e. Some (record { arguments = ts; result = e.ty; body = e.core }))
 
-      by : (o : Option CoreScope) → Alike more OneSignature (and_then (placed c o) made) (and_then (placed d o) made)
+      by : (o : Option CoreScope) → Alike more OneSignature (and_then (with_calls c o) made) (and_then (with_calls d o) made)
       by None = none_alike more OneSignature _
       by (Some p) =
           then_alike more OneType OneSignature _ _ _ _ (block_alike more c d calls f.body (record { known = known; locals = p.locals; count = p.count }))

@@ -1,4 +1,4 @@
--- Two things that may be missing, one at each of two places: what is claimed of them, and how it is kept.
+-- Two things that may be missing, one in each of two scopes: what is claimed of them, and how it is kept.
 use Rattle.std.proofs.Common.{◌≡◌, Bool, true, false, List, [], ◌∷◌, Option, Some, None, refl, sym, subst}
 use mathlib.Core.Bool.{true≢false}
 use Rattle.dslx_meaning.specs.Lists.{all_some, and_then, where_true, with_both}
@@ -9,7 +9,7 @@ abbrev pub MayLack : Bool → Type 0
 MayLack true = ⊥
 MayLack false = Unit {0}
 
--- where both are there, this holds of the two; and if it is claimed that there is more at the second place (`true`), the second
+-- where both are there, this holds of the two; and if it is claimed that there is more in the second scope (`true`), the second
 -- is there where the first is
 pub Alike : {A B : Type 0} → Bool → (A → B → Type 0) → Option A → Option B → Type 0
 Alike more R None q = Unit {0}
@@ -25,7 +25,7 @@ pub both_there : {A B : Type 0} (more : Bool) (R : A → B → Type 0) (a : A) (
 unfolding Alike
 both_there more R a b h = h
 
--- ---- what is the same at both places
+-- ---- what is the same in both scopes
 
 pub alike_itself : {A : Type 0} (more : Bool) (R : A → A → Type 0) (o : Option A) → ((a : A) → R a a) → Alike more R o o
 unfolding Alike
@@ -46,7 +46,7 @@ then_alike more R S None q f g h k = tt
 then_alike more R S (Some a) None f g h k = nothing_alike more S (f a) h
 then_alike more R S (Some a) (Some b) f g h k = k a b h
 
--- behind what is the same at both places
+-- behind what is the same in both scopes
 pub then_same : {A C D : Type 0} (more : Bool) (S : C → D → Type 0) (o : Option A) (f : A → Option C) (g : A → Option D) → ((a : A) → Alike more S (f a) (g a)) → Alike more S (and_then o f) (and_then o g)
 unfolding Alike
 then_same more S None f g k = tt
@@ -62,7 +62,7 @@ both_alike more R S T (Some a) None (Some c) r f g h k m = nothing_alike more T 
 both_alike more R S T (Some a) (Some b) (Some c) None f g h k m = nothing_alike more T (f a c) k
 both_alike more R S T (Some a) (Some b) (Some c) (Some d) f g h k m = m a b c d h k
 
--- two that are the same at both places
+-- two that are the same in both scopes
 pub both_same : {A C E F : Type 0} (more : Bool) (T : E → F → Type 0) (o : Option A) (p : Option C) (f : A → C → Option E) (g : A → C → Option F)
     → ((a : A) (c : C) → Alike more T (f a c) (g a c)) → Alike more T (with_both o p f) (with_both o p g)
 unfolding Alike

@@ -89,29 +89,29 @@ updated_strict (a ∷ b ∷ c ∷ d ∷ os) =
 joins_strict : (os : List (Option LoweredExpr)) → and_then (all_some os) (λ es. lowered (core.Tuple []) ty.Token) ≡ and_then (all_some os) (λ es. and_then (all_some (map Some es)) (λ es. lowered (core.Tuple []) ty.Token))
 joins_strict os = λ i. and_then (all_some os) (λ es. and_then (sym (all_there es) i) (λ es. lowered (core.Tuple []) ty.Token))
 
-function_strict : (place : CoreScope) (name : List ℕ) (ns : Option (List DslxValue)) (os : Option (List LoweredExpr)) (f : List DslxValue → List LoweredExpr → Option LoweredExpr)
+function_strict : (scope : CoreScope) (name : List ℕ) (ns : Option (List DslxValue)) (os : Option (List LoweredExpr)) (f : List DslxValue → List LoweredExpr → Option LoweredExpr)
     → with_both ns os f ≡ and_then os (λ es. with_both ns (all_some (map Some es)) f)
-function_strict place name None None f = refl
-function_strict place name None (Some es) f = refl
-function_strict place name (Some ns) None f = refl
-function_strict place name (Some ns) (Some es) f = ap (λ o. with_both (Some ns) o f) (sym (all_there es))
+function_strict scope name None None f = refl
+function_strict scope name None (Some es) f = refl
+function_strict scope name (Some ns) None f = refl
+function_strict scope name (Some ns) (Some es) f = ap (λ o. with_both (Some ns) o f) (sym (all_there es))
 
-call_strict : (kind : CallKind) (name : List ℕ) (place : CoreScope) (ns : List (Option DslxValue)) (os : List (Option LoweredExpr))
-    → lower_call kind name place ns os ≡ and_then (all_some os) (λ es. lower_call kind name place ns (map Some es))
-call_strict k.Joins name place ns os = joins_strict os
-call_strict k.Receives name place ns os = sym (nothing_behind (all_some os))
-call_strict k.ReceivesIf name place ns os = sym (nothing_behind (all_some os))
-call_strict k.Sends name place ns os = sym (nothing_behind (all_some os))
-call_strict k.SendsIf name place ns os = sym (nothing_behind (all_some os))
-call_strict k.CountsLeading name place ns os = counted_strict u.Clz os
-call_strict k.CountsTrailing name place ns os = counted_strict u.Ctz os
-call_strict k.Reverses name place ns os = counted_strict u.Rev os
-call_strict k.AllOnes name place ns os = reduced_strict u.AndReduce os
-call_strict k.SomeOne name place ns os = reduced_strict u.OrReduce os
-call_strict k.Parity name place ns os = reduced_strict u.XorReduce os
-call_strict k.Updates name place ns os = updated_strict os
-call_strict k.Calls name place ns os =
-    function_strict place name (all_some ns) (all_some os) (λ parametric_args es. and_then (place.known.callee name parametric_args (types_of_lowered es)) (λ callee. lowered (core.Call callee.number (cores_of es)) callee.result))
+call_strict : (kind : CallKind) (name : List ℕ) (scope : CoreScope) (ns : List (Option DslxValue)) (os : List (Option LoweredExpr))
+    → lower_call kind name scope ns os ≡ and_then (all_some os) (λ es. lower_call kind name scope ns (map Some es))
+call_strict k.Joins name scope ns os = joins_strict os
+call_strict k.Receives name scope ns os = sym (nothing_behind (all_some os))
+call_strict k.ReceivesIf name scope ns os = sym (nothing_behind (all_some os))
+call_strict k.Sends name scope ns os = sym (nothing_behind (all_some os))
+call_strict k.SendsIf name scope ns os = sym (nothing_behind (all_some os))
+call_strict k.CountsLeading name scope ns os = counted_strict u.Clz os
+call_strict k.CountsTrailing name scope ns os = counted_strict u.Ctz os
+call_strict k.Reverses name scope ns os = counted_strict u.Rev os
+call_strict k.AllOnes name scope ns os = reduced_strict u.AndReduce os
+call_strict k.SomeOne name scope ns os = reduced_strict u.OrReduce os
+call_strict k.Parity name scope ns os = reduced_strict u.XorReduce os
+call_strict k.Updates name scope ns os = updated_strict os
+call_strict k.Calls name scope ns os =
+    function_strict scope name (all_some ns) (all_some os) (λ parametric_args es. and_then (scope.known.callee name parametric_args (types_of_lowered es)) (λ callee. lowered (core.Call callee.number (cores_of es)) callee.result))
 
 -- ---- a part and those behind it
 
@@ -164,8 +164,8 @@ module _ (context : InstanceEnv) (table : List CoreInstance) where
   abbrev TableResult : Option OpenBody → Option LoweredExpr → OpenBody → Type 0
   TableResult next o body = end_of_next at next ≡ and_then (makes o (spot_of at body)) (does_all at body.todo)
 
-  abbrev place : OpenBody → CoreScope
-  place body = scope_in at body
+  abbrev scope : OpenBody → CoreScope
+  scope body = scope_in at body
 
   -- ---- calls
 
@@ -195,7 +195,7 @@ module _ (context : InstanceEnv) (table : List CoreInstance) where
 
   all_parametric_args_keep : (ns : Option (List DslxValue)) (name : List ℕ) (es : List LoweredExpr) (body : OpenBody)
       → TableResult (and_then ns (λ given. s.calls_function context name es given body))
-      (with_both ns (all_some (map Some es)) (λ given es. and_then ((place body).known.callee name given (types_of_lowered es)) (λ callee. lowered (core.Call callee.number (cores_of es)) callee.result))) body
+      (with_both ns (all_some (map Some es)) (λ given es. and_then ((scope body).known.callee name given (types_of_lowered es)) (λ callee. lowered (core.Call callee.number (cores_of es)) callee.result))) body
   all_parametric_args_keep None name es body = refl
   all_parametric_args_keep (Some given) name es body =
       calls_function_keeps name es given body
@@ -203,8 +203,8 @@ module _ (context : InstanceEnv) (table : List CoreInstance) where
       (λ callee. lowered (core.Call callee.number (cores_of es)) callee.result))) (spot_of at body)) (does_all at body.todo)) (sym (all_there es))
 
   calls_keep : (kind : CallKind) (name : List ℕ) (parametric_args : List Arg) (es : List LoweredExpr) (body : OpenBody)
-      → TableResult (s.calls_by_kind kind context name parametric_args es body) (lower_call kind name (place body) (parametric_args_at (place body) parametric_args) (map Some es)) body
-  calls_keep k.Joins name parametric_args es body = gives_keep context table (lower_call k.Joins name (place body) [] (map Some es)) body
+      → TableResult (s.calls_by_kind kind context name parametric_args es body) (lower_call kind name (scope body) (parametric_args_at (scope body) parametric_args) (map Some es)) body
+  calls_keep k.Joins name parametric_args es body = gives_keep context table (lower_call k.Joins name (scope body) [] (map Some es)) body
   calls_keep k.Receives name parametric_args es body = refl
   calls_keep k.ReceivesIf name parametric_args es body = refl
   calls_keep k.Sends name parametric_args es body = refl
@@ -216,9 +216,9 @@ module _ (context : InstanceEnv) (table : List CoreInstance) where
   calls_keep k.SomeOne name parametric_args es body = gives_keep context table (lower_reduced u.OrReduce (map Some es)) body
   calls_keep k.Parity name parametric_args es body = gives_keep context table (lower_reduced u.XorReduce (map Some es)) body
   calls_keep k.Updates name parametric_args es body = gives_keep context table (lower_updated (map Some es)) body
-  calls_keep k.Calls name parametric_args es body = all_parametric_args_keep (all_some (parametric_args_at (place body) parametric_args)) name es body
+  calls_keep k.Calls name parametric_args es body = all_parametric_args_keep (all_some (parametric_args_at (scope body) parametric_args)) name es body
 
-  made_keeps : (maker : PartsMaker) (es : List LoweredExpr) (body : OpenBody) → TableResult (s.made_of_parts maker context es body) (made_in maker (place body) es) body
+  made_keeps : (maker : PartsMaker) (es : List LoweredExpr) (body : OpenBody) → TableResult (s.made_of_parts maker context es body) (made_in maker (scope body) es) body
   made_keeps MakesTuple es body = refl
   made_keeps MakesArray es body = gives_keep context table (lower_array_elements es) body
   made_keeps (Fills t n dots) es body = gives_keep context table (lower_filled body.count t dots n es) body
@@ -231,11 +231,11 @@ module _ (context : InstanceEnv) (table : List CoreInstance) where
   part_begun (Fills t n dots) here e = element_begun t (denotation e).bare (lower_expression e here)
   part_begun maker here e = lower_expression e here
 
-  element_keeps : (t : DslxType) (o : Option UntypedLiteral) (e : Expr) (body : OpenBody) → TableResult (s.element_begins t o e body) (element_begun t o (lower_expression e (place body))) body
+  element_keeps : (t : DslxType) (o : Option UntypedLiteral) (e : Expr) (body : OpenBody) → TableResult (s.element_begins t o e body) (element_begun t o (lower_expression e (scope body))) body
   element_keeps t None e body = refl
   element_keeps t (Some number) e body = gives_keep context table (lower_number (Some t) number) body
 
-  part_keeps : (maker : PartsMaker) (e : Expr) (body : OpenBody) → TableResult (s.part_begins maker e body) (part_begun maker (place body) e) body
+  part_keeps : (maker : PartsMaker) (e : Expr) (body : OpenBody) → TableResult (s.part_begins maker e body) (part_begun maker (scope body) e) body
   part_keeps MakesTuple e body = refl
   part_keeps MakesArray e body = refl
   part_keeps (Fills t n dots) e body = element_keeps t (denotation e).bare e body
@@ -247,102 +247,102 @@ module _ (context : InstanceEnv) (table : List CoreInstance) where
   part_is (Fills t n dots) here e = element_is t (denotation e).bare (lower_expression e here)
   part_is (CallsWith name parametric_args) here e = gives_itself (lower_expression e here)
 
-  pub gathers_keep : (before : List LoweredExpr) (es : List Expr) (maker : PartsMaker) (body : OpenBody) → TableResult (s.gathers context before es maker body) (list_in (place body) before es maker) body
+  pub gathers_keep : (before : List LoweredExpr) (es : List Expr) (maker : PartsMaker) (body : OpenBody) → TableResult (s.gathers context before es maker body) (list_in (scope body) before es maker) body
   gathers_keep before [] maker body =
-      made_keeps maker before body ∙ ap (λ es. and_then (makes (made_in maker (place body) es) (spot_of at body)) (does_all at body.todo)) (sym (append-nil before))
+      made_keeps maker before body ∙ ap (λ es. and_then (makes (made_in maker (scope body) es) (spot_of at body)) (does_all at body.todo)) (sym (append-nil before))
   gathers_keep before (e ∷ es) maker body =
       part_keeps maker e (doing (Gathers before es maker ∷ []) body)
-      ∙ taken_next (λ here r. and_then (part_taken maker r) (λ e. list_in here (before ++ e ∷ []) es maker)) (part_begun maker (place body) e) (spot_of at body) (does_all at body.todo)
+      ∙ taken_next (λ here r. and_then (part_taken maker r) (λ e. list_in here (before ++ e ∷ []) es maker)) (part_begun maker (scope body) e) (spot_of at body) (does_all at body.todo)
       ∙ ap (λ o. and_then (makes o (spot_of at body)) (does_all at body.todo))
-      (sym (in_turn (part_begun maker (place body) e) (part_taken maker) (λ e. list_in (place body) (before ++ e ∷ []) es maker))
-      ∙ (λ i. and_then (part_is maker (place body) e i) (λ e. and_then (all_some (map (part_in maker (place body)) es)) (λ more. made_in maker (place body) (append_assoc before (e ∷ []) more i))))
-      ∙ sym (first_of_all (part_in maker (place body) e) (map (part_in maker (place body)) es) (λ more. made_in maker (place body) (before ++ more))))
+      (sym (in_turn (part_begun maker (scope body) e) (part_taken maker) (λ e. list_in (scope body) (before ++ e ∷ []) es maker))
+      ∙ (λ i. and_then (part_is maker (scope body) e i) (λ e. and_then (all_some (map (part_in maker (scope body)) es)) (λ more. made_in maker (scope body) (append_assoc before (e ∷ []) more i))))
+      ∙ sym (first_of_all (part_in maker (scope body) e) (map (part_in maker (scope body)) es) (λ more. made_in maker (scope body) (before ++ more))))
 
   -- ---- arrays
 
   pub array_keeps : (t : Option TypeExpr) (es : List Expr) (dots : Bool) (body : OpenBody)
-      → TableResult (s.array_begins t context es dots body) (lower_array (place body).count (array_type_at (place body) t) (map (element_pair (place body)) es) dots) body
+      → TableResult (s.array_begins t context es dots body) (lower_array (scope body).count (array_type_at (scope body) t) (map (element_pair (scope body)) es) dots) body
   array_keeps None es true body = refl
   array_keeps None es false body =
       gathers_keep [] es MakesArray body
       ∙ ap (λ os. and_then (makes (and_then (all_some os) lower_array_elements) (spot_of at body)) (does_all at body.todo))
-      (sym (map-map (λ (e : Option UntypedLiteral × Option LoweredExpr). e.1) (element_pair (place body)) es))
+      (sym (map-map (λ (e : Option UntypedLiteral × Option LoweredExpr). e.1) (element_pair (scope body)) es))
   array_keeps (Some t) es dots body =
       (λ i. end_of_next at (and_then (and_then (sym (type_anywhere t (scope_in context body) (callee_in context.text context.items table)) i) array_in) (λ parts. s.gathers context [] es (Fills parts.0 parts.1 dots) body)))
-      ∙ by (and_then (lower_type_of_text t (place body)) array_in)
+      ∙ by (and_then (lower_type_of_text t (scope body)) array_in)
     where
       by : (o : Option (DslxType × ℕ)) → TableResult (and_then o (λ parts. s.gathers context [] es (Fills parts.0 parts.1 dots) body))
-          (and_then o (λ parts. and_then (all_some (map (λ (e : Option UntypedLiteral × Option LoweredExpr). element_or_number parts.0 e.0 e.1) (map (element_pair (place body)) es))) (lower_filled (place body).count parts.0 dots parts.1))) body
+          (and_then o (λ parts. and_then (all_some (map (λ (e : Option UntypedLiteral × Option LoweredExpr). element_or_number parts.0 e.0 e.1) (map (element_pair (scope body)) es))) (lower_filled (scope body).count parts.0 dots parts.1))) body
       by None = refl
       by (Some parts) =
           gathers_keep [] es (Fills parts.0 parts.1 dots) body
-          ∙ ap (λ os. and_then (makes (and_then (all_some os) (lower_filled (place body).count parts.0 dots parts.1)) (spot_of at body)) (does_all at body.todo))
-          (sym (map-map (λ (e : Option UntypedLiteral × Option LoweredExpr). element_or_number parts.0 e.0 e.1) (element_pair (place body)) es))
+          ∙ ap (λ os. and_then (makes (and_then (all_some os) (lower_filled (scope body).count parts.0 dots parts.1)) (spot_of at body)) (does_all at body.todo))
+          (sym (map-map (λ (e : Option UntypedLiteral × Option LoweredExpr). element_or_number parts.0 e.0 e.1) (element_pair (scope body)) es))
 
-  pub tuple_keeps : (es : List Expr) (body : OpenBody) → TableResult (s.gathers context [] es MakesTuple body) (lower_tuple (all_become (place body) es)) body
+  pub tuple_keeps : (es : List Expr) (body : OpenBody) → TableResult (s.gathers context [] es MakesTuple body) (lower_tuple (all_become (scope body) es)) body
   tuple_keeps es body = gathers_keep [] es MakesTuple body
 
   pub call_keeps : (name : List ℕ) (parametric_args : List Arg) (es : List Expr) (body : OpenBody)
-      → TableResult (s.gathers context [] es (CallsWith name parametric_args) body) (lower_call (kind_of_call name) name (place body) (parametric_args_at (place body) parametric_args) (all_become (place body) es)) body
+      → TableResult (s.gathers context [] es (CallsWith name parametric_args) body) (lower_call (kind_of_call name) name (scope body) (parametric_args_at (scope body) parametric_args) (all_become (scope body) es)) body
   call_keeps name parametric_args es body =
       gathers_keep [] es (CallsWith name parametric_args) body
-      ∙ ap (λ o. and_then (makes o (spot_of at body)) (does_all at body.todo)) (sym (call_strict (kind_of_call name) name (place body) (parametric_args_at (place body) parametric_args) (all_become (place body) es)))
+      ∙ ap (λ o. and_then (makes o (spot_of at body)) (does_all at body.todo)) (sym (call_strict (kind_of_call name) name (scope body) (parametric_args_at (scope body) parametric_args) (all_become (scope body) es)))
 
   -- ---- fields
 
   abbrev field_begun : CoreScope → Option LoweredExpr → List ℕ → Option FieldValue → Option LoweredExpr
   field_begun here others field o = field_or_other here others field (option_map (λ f. (field_by_parts f).value) o)
 
-  field_value_keeps : (name : List ℕ) (o : Option Expr) (body : OpenBody) → TableResult (s.field_value_begins name o context body) (field_value_lowers_to name o (place body)) body
-  field_value_keeps name None body = gives_keep context table (lower_name name (place body)) body
+  field_value_keeps : (name : List ℕ) (o : Option Expr) (body : OpenBody) → TableResult (s.field_value_begins name o context body) (field_value_lowers_to name o (scope body)) body
+  field_value_keeps name None body = gives_keep context table (lower_name name (scope body)) body
   field_value_keeps name (Some e) body = refl
 
-  field_keeps : (o : Option FieldValue) (field : List ℕ) (others : Option LoweredExpr) (body : OpenBody) → TableResult (s.field_begins o field others context body) (field_begun (place body) others field o) body
+  field_keeps : (o : Option FieldValue) (field : List ℕ) (others : Option LoweredExpr) (body : OpenBody) → TableResult (s.field_begins o field others context body) (field_begun (scope body) others field o) body
   field_keeps None field others body = gives_keep context table (lower_field others field) body
   field_keeps (Some f) field others body = field_value_keeps (out-FieldValue f).name.name (out-FieldValue f).value body
 
   pub fields_on_keep : (work : StructWork) (before : List LoweredExpr) (fields : List (List ℕ)) (ts : List DslxType) (body : OpenBody)
-      → TableResult (s.fields_on context work before fields ts body) (fields_in (place body) work before fields ts) body
+      → TableResult (s.fields_on context work before fields ts body) (fields_in (scope body) work before fields ts) body
   fields_on_keep work before [] [] body = ap (λ es. and_then (makes (lowered (core.Tuple (cores_of es)) work.ty) (spot_of at body)) (does_all at body.todo)) (sym (append-nil before))
   fields_on_keep work before [] (t ∷ ts) body = refl
   fields_on_keep work before (field ∷ fields) [] body = refl
   fields_on_keep work before (field ∷ fields) (t ∷ ts) body =
       field_keeps (field_among field work.written) field work.others (doing (GathersFields work before t fields ts ∷ []) body)
-      ∙ taken_next (λ here r. and_then (of_type t (Some r)) (λ e. fields_in here work (before ++ e ∷ []) fields ts)) (field_begun (place body) work.others field (field_among field work.written)) (spot_of at body) (does_all at body.todo)
+      ∙ taken_next (λ here r. and_then (of_type t (Some r)) (λ e. fields_in here work (before ++ e ∷ []) fields ts)) (field_begun (scope body) work.others field (field_among field work.written)) (spot_of at body) (does_all at body.todo)
       ∙ ap (λ o. and_then (makes o (spot_of at body)) (does_all at body.todo))
-      ((λ i. and_then (field_or_other (place body) work.others field (sym (written_is field work.written) i)) (λ r. and_then (of_type t (Some r)) (λ e. fields_in (place body) work (before ++ e ∷ []) fields ts)))
-      ∙ next_field t (field_or_other (place body) work.others field (value_written field (map field_lowers_to work.written))) (lower_fields (place body) (map field_lowers_to work.written) work.others fields ts) before work.ty)
+      ((λ i. and_then (field_or_other (scope body) work.others field (sym (written_is field work.written) i)) (λ r. and_then (of_type t (Some r)) (λ e. fields_in (scope body) work (before ++ e ∷ []) fields ts)))
+      ∙ next_field t (field_or_other (scope body) work.others field (value_written field (map field_lowers_to work.written))) (lower_fields (scope body) (map field_lowers_to work.written) work.others fields ts) before work.ty)
 
   -- the value that has the other fields is bound
   pub others_keep : (e : LoweredExpr) (t : DslxType) (fields : List (List ℕ)) (ts : List DslxType) (written : List FieldValue) (body : OpenBody)
-      → TableResult (s.others_taken context e t fields ts written body) (with_others (place body) e (map field_lowers_to written) t fields ts) body
+      → TableResult (s.others_taken context e t fields ts written body) (with_others (scope body) e (map field_lowers_to written) t fields ts) body
   others_keep e t fields ts written body =
       fields_on_keep (record { ty = t; written = written; others = lowered (core.Slot body.count) e.ty }) [] fields ts (unnamed (doing (MakesBind e shape.Bound ∷ restores body ∷ []) body))
-      ∙ by (lower_fields (with_unnamed (place body)) (map field_lowers_to written) (lowered (core.Slot body.count) e.ty) fields ts)
+      ∙ by (lower_fields (with_unnamed (scope body)) (map field_lowers_to written) (lowered (core.Slot body.count) e.ty) fields ts)
     where
       by : (o : Option (List LoweredExpr))
           → and_then (makes (and_then o (λ es. lowered (core.Tuple (cores_of es)) t)) (spot_of at (unnamed body))) (does_all at (MakesBind e shape.Bound ∷ restores body ∷ body.todo))
           ≡ and_then (makes (and_then o (λ es. lowered (core.Bind e.core shape.Bound (core.Tuple (cores_of es))) t)) (spot_of at body)) (does_all at body.todo)
       by None = refl
       by (Some es) =
-          ap (λ here. does_all at body.todo (record { place = here; made = record { core = core.Bind e.core shape.Bound (core.Tuple (cores_of es)); ty = t } ∷ body.made })) (back_from_unnamed (place body))
+          ap (λ here. does_all at body.todo (record { scope = here; made = record { core = core.Bind e.core shape.Bound (core.Tuple (cores_of es)); ty = t } ∷ body.made })) (back_from_unnamed (scope body))
 
   struct_of_fields : (written : List FieldValue) (rest : Option Expr) (t : DslxType) (fields : List (List ℕ)) (ts : List DslxType) (body : OpenBody)
-      → TableResult (s.fields_begin context written rest t fields ts body) (struct_fields (place body) (map field_lowers_to written) (option_map lower_expression rest) t fields ts) body
+      → TableResult (s.fields_begin context written rest t fields ts body) (struct_fields (scope body) (map field_lowers_to written) (option_map lower_expression rest) t fields ts) body
   struct_of_fields written None t fields ts body = fields_on_keep (record { ty = t; written = written; others = None }) [] fields ts body
   struct_of_fields written (Some e) t fields ts body =
       by (list_all (λ field. is_in field (names_of_fields written)) fields)
-      ∙ ap (λ names. and_then (makes (if list_all (λ field. is_in field names) fields then without_others (place body) (map field_lowers_to written) t fields ts
-      else and_then (lower_expression e (place body)) (λ e. with_others (place body) e (map field_lowers_to written) t fields ts)) (spot_of at body)) (does_all at body.todo)) (sym (names_are written))
+      ∙ ap (λ names. and_then (makes (if list_all (λ field. is_in field names) fields then without_others (scope body) (map field_lowers_to written) t fields ts
+      else and_then (lower_expression e (scope body)) (λ e. with_others (scope body) e (map field_lowers_to written) t fields ts)) (spot_of at body)) (does_all at body.todo)) (sym (names_are written))
     where
       by : (b : Bool)
           → TableResult (if b then s.fields_on context (record { ty = t; written = written; others = None }) [] fields ts body else Some (doing (LowersExpr e ∷ TakesOthers t fields ts written ∷ []) body))
-          (if b then without_others (place body) (map field_lowers_to written) t fields ts else and_then (lower_expression e (place body)) (λ e. with_others (place body) e (map field_lowers_to written) t fields ts)) body
+          (if b then without_others (scope body) (map field_lowers_to written) t fields ts else and_then (lower_expression e (scope body)) (λ e. with_others (scope body) e (map field_lowers_to written) t fields ts)) body
       by true = fields_on_keep (record { ty = t; written = written; others = None }) [] fields ts body
-      by false = taken_next (λ here e. with_others here e (map field_lowers_to written) t fields ts) (lower_expression e (place body)) (spot_of at body) (does_all at body.todo)
+      by false = taken_next (λ here e. with_others here e (map field_lowers_to written) t fields ts) (lower_expression e (scope body)) (spot_of at body) (does_all at body.todo)
 
   struct_by_type : (x : DslxType-F DslxType) (written : List FieldValue) (rest : Option Expr) (body : OpenBody)
-      → TableResult (s.struct_begins context written rest x body) (lower_struct_in (place body) (map field_lowers_to written) (option_map lower_expression rest) x) body
+      → TableResult (s.struct_begins context written rest x body) (lower_struct_in (scope body) (map field_lowers_to written) (option_map lower_expression rest) x) body
   struct_by_type (DslxType-F.Bits sign w) written rest body = refl
   struct_by_type (DslxType-F.Tuple ts) written rest body = refl
   struct_by_type (DslxType-F.Array t n) written rest body = refl
@@ -351,6 +351,6 @@ module _ (context : InstanceEnv) (table : List CoreInstance) where
   struct_by_type DslxType-F.Token written rest body = refl
 
   pub struct_keeps : (o : Option DslxType) (written : List FieldValue) (rest : Option Expr) (body : OpenBody)
-      → TableResult (and_then o (λ t. s.struct_begins context written rest (out-DslxType t) body)) (and_then o (λ t. lower_struct_in (place body) (map field_lowers_to written) (option_map lower_expression rest) (out-DslxType t))) body
+      → TableResult (and_then o (λ t. s.struct_begins context written rest (out-DslxType t) body)) (and_then o (λ t. lower_struct_in (scope body) (map field_lowers_to written) (option_map lower_expression rest) (out-DslxType t))) body
   struct_keeps None written rest body = refl
   struct_keeps (Some t) written rest body = struct_by_type (out-DslxType t) written rest body

@@ -11,7 +11,7 @@ use Rattle.dslx_core.specs.Lowering.Trees.{lower_block_of_text}
 use Rattle.dslx_core.specs.Machines.Machine.Callees.{CalleesByName}
 use Rattle.dslx_core.specs.Machines.Machine.Machines.{body_open, function_open, instance_open, globals_of}
 use Rattle.dslx_core.specs.Machines.Machine.Tasks.{InstanceEnv, OpenInstance}
-use Rattle.dslx_core.proofs.Lemmas.Machines.Machine.Instances.{calling, placed_anywhere, types_anywhere}
+use Rattle.dslx_core.proofs.Lemmas.Machines.Machine.Instances.{arguments_anywhere, calling, types_anywhere}
 use Rattle.dslx_core.proofs.Lemmas.Machines.Machine.Options.{from_then, from_where}
 
 -- an instance that is opened
@@ -30,9 +30,9 @@ function_opens context before i f l is_f e =
     record {
       opened = opening t.0 (here p.0);
       is = ap (λ o. and_then o (λ f. function_open (globals_of context f i) f i)) is_f
-          ∙ ap (λ b. where_true b (and_then (argument_types (calling known calls) f.arguments) (λ ts. and_then (arguments_in_scope f.arguments ts (outer_scope (calling known calls))) (λ place. Some (opening ts place))))) n.0
-          ∙ ap (λ o. and_then o (λ ts. and_then (arguments_in_scope f.arguments ts (outer_scope (calling known calls))) (λ place. Some (opening ts place)))) (types_anywhere known calls f.arguments ∙ t.1)
-          ∙ ap (λ o. and_then o (λ place. Some (opening t.0 place))) (placed_anywhere known calls f.arguments t.0 [] 0 ∙ ap (λ o. and_then o (λ p. Some (here p))) p.1);
+          ∙ ap (λ b. where_true b (and_then (argument_types (calling known calls) f.arguments) (λ ts. and_then (arguments_in_scope f.arguments ts (outer_scope (calling known calls))) (λ scope. Some (opening ts scope))))) n.0
+          ∙ ap (λ o. and_then o (λ ts. and_then (arguments_in_scope f.arguments ts (outer_scope (calling known calls))) (λ scope. Some (opening ts scope)))) (types_anywhere known calls f.arguments ∙ t.1)
+          ∙ ap (λ o. and_then o (λ scope. Some (opening t.0 scope))) (arguments_anywhere known calls f.arguments t.0 [] 0 ∙ ap (λ o. and_then o (λ p. Some (here p))) p.1);
       instance = refl;
     }
   where
@@ -46,10 +46,10 @@ function_opens context before i f l is_f e =
     here p = record { known = calling known calls; locals = p.locals; count = p.count }
 
     opening : List DslxType → CoreScope → OpenInstance
-    opening ts place = record { instance = i; arguments = ts; body = body_open f i place }
+    opening ts scope = record { instance = i; arguments = ts; body = body_open f i scope }
 
     body_at : List DslxType → CoreScope → Option LoweredFunction
-    body_at ts place = and_then (lower_block_of_text f.body place) (λ (e : LoweredExpr). Some (record { arguments = ts; result = e.ty; body = e.core }))
+    body_at ts scope = and_then (lower_block_of_text f.body scope) (λ (e : LoweredExpr). Some (record { arguments = ts; result = e.ty; body = e.core }))
 
 pub may_open : (context : InstanceEnv) (before : List CoreInstance) (i : Instantiated) (c : CoreInstance) → next_instance context.text context.items before i ≡ Some c → MayOpen context i
 may_open context before i c e =

@@ -32,5 +32,5 @@ expression_runs context table is e body r h = record {
       let calls = calls_by_tables true context.text context.items table longer alike in
       let s = there_too OneType _ _ (expression_alike true (callee_in context.text context.items table) (callee_in context.text context.items longer) calls e (scope_in context body)) r h in
       let spot = spot_of (at_table context longer) (lowering_alone e body) in
-      (record { place = spot.place; made = s.0 ∷ [] }, ap (λ o. and_then (makes o spot) (λ p. Some p)) s.1);
+      (record { scope = spot.scope; made = s.0 ∷ [] }, ap (λ o. and_then (makes o spot) (λ p. Some p)) s.1);
 }

@@ -15,7 +15,7 @@ use Rattle.dslx_core.specs.Machines.Machine.Bodies.{bound_as, doing, gives, scop
 
 -- a pattern in its scope, against values of a type
 abbrev pub shaped_at : Pattern → CoreScope → DslxType → Option LoweredShape
-shaped_at p place t = lower_in_scope (lower_pattern_of_text p) place t
+shaped_at p scope t = lower_in_scope (lower_pattern_of_text p) scope t
 
 -- the alternatives of an arm, which bind nothing
 abbrev pub alternatives_begin : InstanceEnv → MatchWork → List Pattern → OpenBody → Option OpenBody
@@ -27,7 +27,7 @@ alternatives_begin context work ps body =
 abbrev pub binding_begins : InstanceEnv → MatchWork → List Pattern → OpenBody → Option OpenBody
 binding_begins context work (p ∷ []) body =
     and_then (shaped_at p (scope_in context body) work.value.ty) (λ s.
-    Some (bound_as s.place (doing (LowersExpr (out-Arm work.arm).value ∷ restores body ∷ TakesArm work (s.shape ∷ []) ∷ []) body)))
+    Some (bound_as s.scope (doing (LowersExpr (out-Arm work.arm).value ∷ restores body ∷ TakesArm work (s.shape ∷ []) ∷ []) body)))
 binding_begins context work _ body = None
 
 -- each name in these patterns is a constant's

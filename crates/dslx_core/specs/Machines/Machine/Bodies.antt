@@ -36,7 +36,7 @@ with_last (e ∷ made) f = f e made
 
 -- with what is bound in another scope
 abbrev pub bound_as : CoreScope → OpenBody → OpenBody
-bound_as place body = record body { locals = place.locals; count = place.count }
+bound_as scope body = record body { locals = scope.locals; count = scope.count }
 
 -- one more value is bound, to no name
 abbrev pub unnamed : OpenBody → OpenBody

@@ -11,8 +11,8 @@ abbrev pub CalleesByName : Type 0
 CalleesByName = List ℕ → List DslxValue → List DslxType → Option CoreCallee
 
 abbrev pub with_callee : CalleesByName → CoreScope → CoreScope
-with_callee c place = record { known = record { items = place.known.items; parametric_args = place.known.parametric_args; callee = c }; locals = place.locals; count = place.count }
+with_callee c scope = record { known = record { items = scope.known.items; parametric_args = scope.known.parametric_args; callee = c }; locals = scope.locals; count = scope.count }
 
 -- the same shape, behind which calls resolve to this
 abbrev pub moved : CalleesByName → Option LoweredShape → Option LoweredShape
-moved c o = and_then o (λ s. Some (record { shape = s.shape; place = with_callee c s.place }))
+moved c o = and_then o (λ s. Some (record { shape = s.shape; scope = with_callee c s.scope }))

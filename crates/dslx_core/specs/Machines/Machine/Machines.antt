@@ -19,19 +19,19 @@ globals_of context f i = instance_globals context.text context.items context.tab
 
 -- its body in a scope where its arguments are bound
 abbrev pub body_open : Function → Instantiated → CoreScope → OpenBody
-body_open f i place = record {
+body_open f i scope = record {
   given = parametric_args_bound [] f.parametrics i.parametric_args;
   todo = task.LowersBlock f.body ∷ [];
   made = [];
-  locals = place.locals;
-  count = place.count;
+  locals = scope.locals;
+  count = scope.count;
 }
 
 abbrev pub function_open : BodyEnv → Function → Instantiated → Option OpenInstance
 function_open known f i =
     where_true (parametric_args_are_well_typed known.items known.parametric_args)
     (and_then (argument_types known f.arguments) (λ ts.
-    and_then (arguments_in_scope f.arguments ts (outer_scope known)) (λ place. Some (record { instance = i; arguments = ts; body = body_open f i place }))))
+    and_then (arguments_in_scope f.arguments ts (outer_scope known)) (λ scope. Some (record { instance = i; arguments = ts; body = body_open f i scope }))))
 
 abbrev pub instance_open : InstanceEnv → Instantiated → Option OpenInstance
 instance_open context i = and_then (as_function (item_named i.name context.text.items)) (λ f. function_open (globals_of context f i) f i)

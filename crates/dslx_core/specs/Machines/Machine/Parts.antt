@@ -34,7 +34,7 @@ calls_function context name es given body =
     Some (doing (CallsInstance (record { name = name; parametric_args = parametric_args }) es ∷ []) body)))
 
 abbrev pub parametric_args_at : CoreScope → List Arg → List (Option DslxValue)
-parametric_args_at place parametric_args = map (λ (a : Arg). constant_at place (out-Arg a).value) parametric_args
+parametric_args_at scope parametric_args = map (λ (a : Arg). constant_at scope (out-Arg a).value) parametric_args
 
 abbrev pub calls_by_kind : CallKind → InstanceEnv → List ℕ → List Arg → List LoweredExpr → OpenBody → Option OpenBody
 calls_by_kind Calls context name parametric_args es body = and_then (all_some (parametric_args_at (scope_in context body) parametric_args)) (λ given. calls_function context name es given body)

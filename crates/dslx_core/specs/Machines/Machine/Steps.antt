@@ -36,7 +36,7 @@ use Rattle.dslx_core.specs.Machines.Machine.Arms.{arm_taken, arms_on, shaped_at}
 
 -- a number of a type that is written
 abbrev pub number_at : CoreScope → Number → Option DslxValue
-number_at place n = and_then (and_then (out-Number n).ty (λ t. lower_type_of_text t place)) (λ t. number_value t (written n))
+number_at scope n = and_then (and_then (out-Number n).ty (λ t. lower_type_of_text t scope)) (λ t. number_value t (written n))
 
 abbrev pub node_begins : NodeLayer → InstanceEnv → OpenBody → Option OpenBody
 node_begins (Node-F.Node::Number n) context body = gives (and_then (number_at (scope_in context body) n) literal) body
@@ -74,15 +74,15 @@ of_last_three (c ∷ b ∷ a ∷ made) f = and_then (f a b c) (λ r. Some (r ∷
 of_last_three _ f = None
 
 abbrev pub made_of_last : LastMaker → CoreScope → List LoweredExpr → Option (List LoweredExpr)
-made_of_last (MakesPrefix o) place made = of_last made (λ e. lower_prefix o (Some e))
-made_of_last (MakesBinary o) place made = of_last_two made (λ l r. lower_binary o (Some l) (Some r))
-made_of_last (MakesCast t) place made = of_last made (λ e. lower_cast (Some e) (lower_type_of_text t place))
-made_of_last (MakesSlice a b) place made = of_last made (λ e. lower_slice (Some e) (bound_at place a) (bound_at place b))
-made_of_last (MakesPart t) place made = of_last_two made (λ e i. lower_part (Some e) (Some i) (lower_type_of_text t place))
-made_of_last (MakesField name) place made = of_last made (λ e. lower_field (Some e) name)
-made_of_last (MakesElement k) place made = of_last made (λ e. lower_element (Some e) k)
-made_of_last MakesIndexed place made = of_last_two made (λ e i. lower_index (Some e) (Some i))
-made_of_last MakesChoice place made = of_last_three made (λ c a b. lower_choice (Some c) (Some a) (Some b))
+made_of_last (MakesPrefix o) scope made = of_last made (λ e. lower_prefix o (Some e))
+made_of_last (MakesBinary o) scope made = of_last_two made (λ l r. lower_binary o (Some l) (Some r))
+made_of_last (MakesCast t) scope made = of_last made (λ e. lower_cast (Some e) (lower_type_of_text t scope))
+made_of_last (MakesSlice a b) scope made = of_last made (λ e. lower_slice (Some e) (bound_at scope a) (bound_at scope b))
+made_of_last (MakesPart t) scope made = of_last_two made (λ e i. lower_part (Some e) (Some i) (lower_type_of_text t scope))
+made_of_last (MakesField name) scope made = of_last made (λ e. lower_field (Some e) name)
+made_of_last (MakesElement k) scope made = of_last made (λ e. lower_element (Some e) k)
+made_of_last MakesIndexed scope made = of_last_two made (λ e i. lower_index (Some e) (Some i))
+made_of_last MakesChoice scope made = of_last_three made (λ c a b. lower_choice (Some c) (Some a) (Some b))
 
 -- ---- blocks
 
@@ -101,7 +101,7 @@ statements_begin (s ∷ ss) last body = stmt_begins (out-Stmt s) ss last body
 
 abbrev pub value_bound : InstanceEnv → LoweredExpr → Pattern → List Stmt → Option Expr → OpenBody → Option OpenBody
 value_bound context e p ss last body =
-    and_then (shaped_at p (scope_in context body) e.ty) (λ s. Some (bound_as s.place (doing (task.LowersStatements ss last ∷ task.MakesBind e s.shape ∷ restores body ∷ []) body)))
+    and_then (shaped_at p (scope_in context body) e.ty) (λ s. Some (bound_as s.scope (doing (task.LowersStatements ss last ∷ task.MakesBind e s.shape ∷ restores body ∷ []) body)))
 
 -- a value that is bound to a shape for another
 abbrev pub bind_made : LoweredExpr → Shape → LoweredExpr → Option LoweredExpr
@@ -111,14 +111,14 @@ bind_made e s r = lowered (core.Bind e.core s r.core) r.ty
 
 -- what an index and what is accumulated bind
 abbrev pub turn_shaped : CoreScope → For → DslxType → DslxType → Option (Shape × LoweredShape)
-turn_shaped place f index acc =
-    and_then (shaped_at (out-For f).index place index) (λ i. and_then (shaped_at (out-For f).accumulator i.place acc) (λ acc. Some (i.shape, acc)))
+turn_shaped scope f index acc =
+    and_then (shaped_at (out-For f).index scope index) (λ i. and_then (shaped_at (out-For f).accumulator i.scope acc) (λ acc. Some (i.shape, acc)))
 
 abbrev pub loop_begins : For → LoweredExpr → LoweredExpr → InstanceEnv → OpenBody → Option OpenBody
 loop_begins f start index context body =
     with_both (and_then (constant_at (scope_in context body) (out-For f).from) bits_of) (and_then (constant_at (scope_in context body) (out-For f).to) bits_of) (λ a b.
     and_then (turn_shaped (scope_in context body) f index.ty start.ty) (λ t.
-    Some (bound_as t.1.place (doing (task.LowersBlock (out-For f).body ∷ task.MakesLoop start a b t.0 t.1.shape ∷ restores body ∷ []) body))))
+    Some (bound_as t.1.scope (doing (task.LowersBlock (out-For f).body ∷ task.MakesLoop start a b t.0 t.1.shape ∷ restores body ∷ []) body))))
 
 abbrev pub loop_made : LoweredExpr → SignedWord → SignedWord → Shape → Shape → LoweredExpr → Option LoweredExpr
 loop_made start a b i acc body =

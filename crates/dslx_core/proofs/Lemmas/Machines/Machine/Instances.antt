@@ -82,14 +82,14 @@ calling known c = record { items = known.items; parametric_args = known.parametr
 pub types_anywhere : (known : BodyEnv) (c : CalleesByName) (fields : List Field) → argument_types (calling known c) fields ≡ argument_types known fields
 types_anywhere known c fields = λ i. all_some (map (λ (f : Field). type_anywhere f.ty (outer_scope known) c i) fields)
 
-pub placed_anywhere : (known : BodyEnv) (c : CalleesByName) (fields : List Field) (ts : List DslxType) (locals : List BoundSlot) (count : ℕ)
+pub arguments_anywhere : (known : BodyEnv) (c : CalleesByName) (fields : List Field) (ts : List DslxType) (locals : List BoundSlot) (count : ℕ)
     → arguments_in_scope fields ts (record { known = calling known c; locals = locals; count = count })
     ≡ and_then (arguments_in_scope fields ts (record { known = known; locals = locals; count = count })) (λ p. Some (record { known = calling known c; locals = p.locals; count = p.count }))
-placed_anywhere known c [] [] locals count = refl
-placed_anywhere known c [] (t ∷ ts) locals count = refl
-placed_anywhere known c (f ∷ fs) [] locals count = refl
-placed_anywhere known c (f ∷ fs) (t ∷ ts) locals count =
-    by (known.items.is_constant f.name.name) (placed_anywhere known c fs ts (record { name = f.name.name; slot = count; ty = t } ∷ locals) (suc count))
+arguments_anywhere known c [] [] locals count = refl
+arguments_anywhere known c [] (t ∷ ts) locals count = refl
+arguments_anywhere known c (f ∷ fs) [] locals count = refl
+arguments_anywhere known c (f ∷ fs) (t ∷ ts) locals count =
+    by (known.items.is_constant f.name.name) (arguments_anywhere known c fs ts (record { name = f.name.name; slot = count; ty = t } ∷ locals) (suc count))
   where
     here : BodyEnv → CoreScope
     here k = record { known = k; locals = record { name = f.name.name; slot = count; ty = t } ∷ locals; count = suc count }
@@ -104,15 +104,15 @@ placed_anywhere known c (f ∷ fs) (t ∷ ts) locals count =
 body_stands : (context : InstanceEnv) (f : Function) (i : Instantiated) (ts : List DslxType) (here : CoreScope) → as_function (item_named i.name context.text.items) ≡ Some f
     → parametric_args_are_well_typed context.items (globals_of context f i).parametric_args ≡ true → argument_types (globals_of context f i) f.arguments ≡ Some ts
     → arguments_in_scope f.arguments ts (outer_scope (globals_of context f i)) ≡ Some here → OpenStands context (record { instance = i; arguments = ts; body = body_open f i here })
-body_stands context f i ts here is_f parametric_args types placed table begins =
+body_stands context f i ts here is_f parametric_args types in_scope table begins =
     ap (λ o. and_then o (λ f. and_then (lower_instance (instance_globals context.text context.items table f i.parametric_args) f) (λ l. Some (record { name = i.name; parametric_args = i.parametric_args; function = l })))) is_f
     ∙ ap (λ b. and_then (where_true b (and_then (argument_types (later f) f.arguments) (lower_function_body (later f) f))) (λ l. Some (record { name = i.name; parametric_args = i.parametric_args; function = l }))) parametric_args
     ∙ ap (λ o. and_then (and_then o (lower_function_body (later f) f)) (λ l. Some (record { name = i.name; parametric_args = i.parametric_args; function = l })))
     (types_anywhere (globals_of context f i) (callee_in context.text context.items table) f.arguments ∙ types)
-    ∙ ap (λ o. and_then (and_then o (λ place. and_then (lower_block_of_text f.body place) (λ e. Some (record { arguments = ts; result = e.ty; body = e.core }))))
+    ∙ ap (λ o. and_then (and_then o (λ scope. and_then (lower_block_of_text f.body scope) (λ e. Some (record { arguments = ts; result = e.ty; body = e.core }))))
     (λ (l : LoweredFunction). Some (record { name = i.name; parametric_args = i.parametric_args; function = l })))
-    (placed_anywhere (globals_of context f i) (callee_in context.text context.items table) f.arguments ts [] 0
-    ∙ ap (λ o. and_then o (λ p. Some (record { known = later f; locals = p.locals; count = p.count }))) placed)
+    (arguments_anywhere (globals_of context f i) (callee_in context.text context.items table) f.arguments ts [] 0
+    ∙ ap (λ o. and_then o (λ p. Some (record { known = later f; locals = p.locals; count = p.count }))) in_scope)
     ∙ by (lower_block_of_text f.body (scope_in (at_table context table) (body_open f i here)))
   where
     later : Function → BodyEnv

@@ -75,18 +75,18 @@ module _ (context : InstanceEnv) (table : List CoreInstance) where
   abbrev TableResult : Option OpenBody → Option LoweredExpr → OpenBody → Type 0
   TableResult next o body = end_of_next at next ≡ and_then (makes o (spot_of at body)) (does_all at body.todo)
 
-  abbrev place : OpenBody → CoreScope
-  place body = scope_in at body
+  abbrev scope : OpenBody → CoreScope
+  scope body = scope_in at body
 
   -- ---- expressions
 
   -- a number's type is the same whatever calls come to
-  number_anywhere : (n : Number) (body : OpenBody) → number_at (scope_in context body) n ≡ number_at (place body) n
+  number_anywhere : (n : Number) (body : OpenBody) → number_at (scope_in context body) n ≡ number_at (scope body) n
   number_anywhere n body = by (out-Number n).ty
     where
       by : (o : Option TypeExpr)
           → and_then (and_then o (λ t. lower_type_of_text t (scope_in context body))) (λ t. number_value t (written n))
-          ≡ and_then (and_then o (λ t. lower_type_of_text t (place body))) (λ t. number_value t (written n))
+          ≡ and_then (and_then o (λ t. lower_type_of_text t (scope body))) (λ t. number_value t (written n))
       by None = refl
       by (Some t) = ap (λ o. and_then o (λ t. number_value t (written n))) (sym (type_anywhere t (scope_in context body) (callee_in context.text context.items table)))
 
@@ -94,56 +94,56 @@ module _ (context : InstanceEnv) (table : List CoreInstance) where
   loop_is : (here : CoreScope) (f : For) (start index : LoweredExpr)
       → loop_in here f start index
       ≡ with_both (and_then (constant_at here (out-For f).from) bits_of) (and_then (constant_at here (out-For f).to) bits_of) (λ a b.
-      and_then (shaped_at (out-For f).index here index.ty) (λ i. and_then (shaped_at (out-For f).accumulator i.place start.ty) (λ acc.
-      and_then (lower_block_of_text (out-For f).body acc.place) (λ r. loop_made start a b i.shape acc.shape r))))
+      and_then (shaped_at (out-For f).index here index.ty) (λ i. and_then (shaped_at (out-For f).accumulator i.scope start.ty) (λ acc.
+      and_then (lower_block_of_text (out-For f).body acc.scope) (λ r. loop_made start a b i.shape acc.shape r))))
   loop_is here f start index =
       λ i. with_both (and_then (constant_at here (out-For f).from) bits_of) (and_then (constant_at here (out-For f).to) bits_of) (λ a b. by a b (shaped_at (out-For f).index here index.ty) i)
     where
       by_acc : (a b : SignedWord) (x : LoweredShape) (o : Option LoweredShape)
-          → and_then (and_then o (λ acc. Some (x.shape, acc))) (λ (t : Shape × LoweredShape). and_then (lower_block_of_text (out-For f).body t.1.place) (λ r. loop_made start a b t.0 t.1.shape r))
-          ≡ and_then o (λ acc. and_then (lower_block_of_text (out-For f).body acc.place) (λ r. loop_made start a b x.shape acc.shape r))
+          → and_then (and_then o (λ acc. Some (x.shape, acc))) (λ (t : Shape × LoweredShape). and_then (lower_block_of_text (out-For f).body t.1.scope) (λ r. loop_made start a b t.0 t.1.shape r))
+          ≡ and_then o (λ acc. and_then (lower_block_of_text (out-For f).body acc.scope) (λ r. loop_made start a b x.shape acc.shape r))
       by_acc a b x None = refl
       by_acc a b x (Some acc) = refl
 
       by : (a b : SignedWord) (o : Option LoweredShape)
-          → and_then (and_then o (λ x. and_then (shaped_at (out-For f).accumulator x.place start.ty) (λ acc. Some (x.shape, acc))))
-          (λ (t : Shape × LoweredShape). and_then (lower_block_of_text (out-For f).body t.1.place) (λ r. loop_made start a b t.0 t.1.shape r))
-          ≡ and_then o (λ x. and_then (shaped_at (out-For f).accumulator x.place start.ty) (λ acc. and_then (lower_block_of_text (out-For f).body acc.place) (λ r. loop_made start a b x.shape acc.shape r)))
+          → and_then (and_then o (λ x. and_then (shaped_at (out-For f).accumulator x.scope start.ty) (λ acc. Some (x.shape, acc))))
+          (λ (t : Shape × LoweredShape). and_then (lower_block_of_text (out-For f).body t.1.scope) (λ r. loop_made start a b t.0 t.1.shape r))
+          ≡ and_then o (λ x. and_then (shaped_at (out-For f).accumulator x.scope start.ty) (λ acc. and_then (lower_block_of_text (out-For f).body acc.scope) (λ r. loop_made start a b x.shape acc.shape r)))
       by a b None = refl
-      by a b (Some x) = by_acc a b x (shaped_at (out-For f).accumulator x.place start.ty)
+      by a b (Some x) = by_acc a b x (shaped_at (out-For f).accumulator x.scope start.ty)
 
-  node_keeps : (x : NodeLayer) (body : OpenBody) → TableResult (s.node_begins x context body) (node_lowers_to x (place body)) body
+  node_keeps : (x : NodeLayer) (body : OpenBody) → TableResult (s.node_begins x context body) (node_lowers_to x (scope body)) body
   node_keeps (Node-F.Node::Number n) body =
       gives_keep context table (and_then (number_at (scope_in context body) n) literal) body
       ∙ ap (λ o. and_then (makes (and_then o literal) (spot_of at body)) (does_all at body.todo)) (number_anywhere n body)
   node_keeps (Node-F.Node::Bool b) body = gives_keep context table (literal (bool_value b)) body
   node_keeps (Node-F.Node::Array t es dots) body = array_keeps context table t es dots body
-  node_keeps (Node-F.Node::Name name) body = gives_keep context table (lower_name name (place body)) body
+  node_keeps (Node-F.Node::Name name) body = gives_keep context table (lower_name name (scope body)) body
   node_keeps (Node-F.Node::Member e a) body = gives_keep context table (and_then (context.items.member e.name a.name) literal) body
   node_keeps (Node-F.Call f parametric_args es) body = call_keeps context table f.name parametric_args es body
   node_keeps (Node-F.Node::Tuple es) body = tuple_keeps context table es body
   node_keeps (Node-F.Struct x fields rest) body = struct_keeps context table (context.items.struct_named x.name) fields rest body
   node_keeps (Node-F.Block b) body = refl
   node_keeps (Node-F.If c a b) body =
-      three_next lower_choice (lower_expression c (place body)) (lower_block_of_text a) (lower_expression b) (spot_of at body) (does_all at body.todo) (λ b c. refl) (λ a c. refl) (λ a b. refl)
-  node_keeps (Node-F.Match e arms) body = taken_next (λ here e. arms_in here e [] arms) (lower_expression e (place body)) (spot_of at body) (does_all at body.todo)
+      three_next lower_choice (lower_expression c (scope body)) (lower_block_of_text a) (lower_expression b) (spot_of at body) (does_all at body.todo) (λ b c. refl) (λ a c. refl) (λ a b. refl)
+  node_keeps (Node-F.Match e arms) body = taken_next (λ here e. arms_in here e [] arms) (lower_expression e (scope body)) (spot_of at body) (does_all at body.todo)
   node_keeps (Node-F.For f) body =
-      two_taken_next (λ here start index. loop_in here f start index) (lower_expression (out-For f).start (place body)) (lower_expression (out-For f).from) (spot_of at body) (does_all at body.todo)
-      ∙ (λ i. and_then (makes (with_both (lower_expression (out-For f).start (place body)) (lower_expression (out-For f).from (place body)) (λ start index. loop_is (place body) f start index i)) (spot_of at body)) (does_all at body.todo))
-  node_keeps (Node-F.Index e i) body = two_next (λ here e i. lower_index e i) (lower_expression e (place body)) (lower_expression i) (spot_of at body) (does_all at body.todo) refl (λ a. refl)
+      two_taken_next (λ here start index. loop_in here f start index) (lower_expression (out-For f).start (scope body)) (lower_expression (out-For f).from) (spot_of at body) (does_all at body.todo)
+      ∙ (λ i. and_then (makes (with_both (lower_expression (out-For f).start (scope body)) (lower_expression (out-For f).from (scope body)) (λ start index. loop_is (scope body) f start index i)) (spot_of at body)) (does_all at body.todo))
+  node_keeps (Node-F.Index e i) body = two_next (λ here e i. lower_index e i) (lower_expression e (scope body)) (lower_expression i) (spot_of at body) (does_all at body.todo) refl (λ a. refl)
   node_keeps (Node-F.Slice e a b) body =
-      one_next (λ here e. lower_slice e (bound_at here a) (bound_at here b)) (lower_expression e (place body)) (spot_of at body) (does_all at body.todo) refl
+      one_next (λ here e. lower_slice e (bound_at here a) (bound_at here b)) (lower_expression e (scope body)) (spot_of at body) (does_all at body.todo) refl
   node_keeps (Node-F.Part e i t) body =
-      two_next (λ here e i. lower_part e i (lower_type_of_text t here)) (lower_expression e (place body)) (lower_expression i) (spot_of at body) (does_all at body.todo) refl (λ a. refl)
-  node_keeps (Node-F.Field e name) body = one_next (λ here e. lower_field e name.name) (lower_expression e (place body)) (spot_of at body) (does_all at body.todo) refl
-  node_keeps (Node-F.Element e span k) body = one_next (λ here e. lower_element e k) (lower_expression e (place body)) (spot_of at body) (does_all at body.todo) refl
-  node_keeps (Node-F.Prefix o e) body = one_next (λ here e. lower_prefix o e) (lower_expression e (place body)) (spot_of at body) (does_all at body.todo) refl
+      two_next (λ here e i. lower_part e i (lower_type_of_text t here)) (lower_expression e (scope body)) (lower_expression i) (spot_of at body) (does_all at body.todo) refl (λ a. refl)
+  node_keeps (Node-F.Field e name) body = one_next (λ here e. lower_field e name.name) (lower_expression e (scope body)) (spot_of at body) (does_all at body.todo) refl
+  node_keeps (Node-F.Element e span k) body = one_next (λ here e. lower_element e k) (lower_expression e (scope body)) (spot_of at body) (does_all at body.todo) refl
+  node_keeps (Node-F.Prefix o e) body = one_next (λ here e. lower_prefix o e) (lower_expression e (scope body)) (spot_of at body) (does_all at body.todo) refl
   node_keeps (Node-F.Cast e t) body =
-      one_next (λ here e. lower_cast e (lower_type_of_text t here)) (lower_expression e (place body)) (spot_of at body) (does_all at body.todo) refl
-  node_keeps (Node-F.Binary o l r) body = two_next (λ here l r. lower_binary o l r) (lower_expression l (place body)) (lower_expression r) (spot_of at body) (does_all at body.todo) refl (λ a. refl)
+      one_next (λ here e. lower_cast e (lower_type_of_text t here)) (lower_expression e (scope body)) (spot_of at body) (does_all at body.todo) refl
+  node_keeps (Node-F.Binary o l r) body = two_next (λ here l r. lower_binary o l r) (lower_expression l (scope body)) (lower_expression r) (spot_of at body) (does_all at body.todo) refl (λ a. refl)
 
   -- what is made of what was made last is the same whatever calls come to
-  maker_anywhere : (maker : LastMaker) (made : List LoweredExpr) (body : OpenBody) → made_of_last maker (scope_in context body) made ≡ made_of_last maker (place body) made
+  maker_anywhere : (maker : LastMaker) (made : List LoweredExpr) (body : OpenBody) → made_of_last maker (scope_in context body) made ≡ made_of_last maker (scope body) made
   maker_anywhere (MakesPrefix o) made body = refl
   maker_anywhere (MakesBinary o) made body = refl
   maker_anywhere (MakesCast t) made body = λ i. of_last made (λ e. lower_cast (Some e) (sym (type_anywhere t (scope_in context body) (callee_in context.text context.items table)) i))
@@ -158,7 +158,7 @@ module _ (context : InstanceEnv) (table : List CoreInstance) where
       → end_of_next at (and_then (made_of_last maker (scope_in context body) body.made) (λ made. Some (with_made made body)))
       ≡ and_then (done at (task.Makes maker) (spot_of at body)) (does_all at body.todo)
   makes_keep maker body =
-      ap (λ o. end_of_next at (and_then o (λ made. Some (with_made made body)))) (maker_anywhere maker body.made body) ∙ by (made_of_last maker (place body) body.made)
+      ap (λ o. end_of_next at (and_then o (λ made. Some (with_made made body)))) (maker_anywhere maker body.made body) ∙ by (made_of_last maker (scope body) body.made)
     where
       by : (o : Option (List LoweredExpr))
           → end_of_next at (and_then o (λ made. Some (with_made made body))) ≡ and_then (and_then o (λ made. Some (having made (spot_of at body)))) (does_all at body.todo)
@@ -167,20 +167,20 @@ module _ (context : InstanceEnv) (table : List CoreInstance) where
 
   -- ---- blocks
 
-  last_keeps : (last : Option Expr) (body : OpenBody) → TableResult (s.last_begins last body) (last_lowers_to last (place body)) body
+  last_keeps : (last : Option Expr) (body : OpenBody) → TableResult (s.last_begins last body) (last_lowers_to last (scope body)) body
   last_keeps None body = refl
   last_keeps (Some e) body = refl
 
-  stmt_keeps : (x : StmtLayer) (ss : List Stmt) (last : Option Expr) (body : OpenBody) → TableResult (s.stmt_begins x ss last body) (stmt_layer_lowers_to x (statements_become ss last) (place body)) body
+  stmt_keeps : (x : StmtLayer) (ss : List Stmt) (last : Option Expr) (body : OpenBody) → TableResult (s.stmt_begins x ss last body) (stmt_layer_lowers_to x (statements_become ss last) (scope body)) body
   stmt_keeps (Stmt-F.Let l) ss last body =
-      taken_next (λ here e. let_in here e (out-Let l).pattern ss last) (lower_expression (out-Let l).value (place body)) (spot_of at body) (does_all at body.todo)
+      taken_next (λ here e. let_in here e (out-Let l).pattern ss last) (lower_expression (out-Let l).value (scope body)) (spot_of at body) (does_all at body.todo)
   stmt_keeps (Stmt-F.Bare e) ss last body = refl
 
-  statements_keep : (ss : List Stmt) (last : Option Expr) (body : OpenBody) → TableResult (s.statements_begin ss last body) (statements_become ss last (place body)) body
+  statements_keep : (ss : List Stmt) (last : Option Expr) (body : OpenBody) → TableResult (s.statements_begin ss last body) (statements_become ss last (scope body)) body
   statements_keep [] last body = last_keeps last body
   statements_keep (x ∷ ss) last body =
       stmt_keeps (out-Stmt x) ss last body
-      ∙ ap (λ (f : ExprLowering → ExprLowering). and_then (makes (f (statements_become ss last) (place body)) (spot_of at body)) (does_all at body.todo)) (sym (stmt_opened x))
+      ∙ ap (λ (f : ExprLowering → ExprLowering). and_then (makes (f (statements_become ss last) (scope body)) (spot_of at body)) (does_all at body.todo)) (sym (stmt_opened x))
 
   -- ---- what was made last
 
@@ -204,9 +204,9 @@ module _ (context : InstanceEnv) (table : List CoreInstance) where
   pub keeps : (d : LowerTask) (body : OpenBody) → ExtendsTable table context.table → missing_for d context ≡ None
       → end_of_next at (stepped d context body) ≡ and_then (done at d (spot_of at body)) (does_all at body.todo)
   keeps (task.LowersExpr e) body begins there =
-      node_keeps (node_of e) body ∙ ap (λ o. and_then (makes o (spot_of at body)) (does_all at body.todo)) (sym (expression_opened e (place body)))
+      node_keeps (node_of e) body ∙ ap (λ o. and_then (makes o (spot_of at body)) (does_all at body.todo)) (sym (expression_opened e (scope body)))
   keeps (task.LowersBlock b) body begins there =
-      statements_keep (out-Block b).statements (out-Block b).value body ∙ ap (λ o. and_then (makes o (spot_of at body)) (does_all at body.todo)) (sym (block_opened b (place body)))
+      statements_keep (out-Block b).statements (out-Block b).value body ∙ ap (λ o. and_then (makes o (spot_of at body)) (does_all at body.todo)) (sym (block_opened b (scope body)))
   keeps (task.LowersStatements ss last) body begins there = statements_keep ss last body
   keeps (task.Makes maker) body begins there = makes_keep maker body
   keeps (task.BindsValue p ss last) body begins there = last_made_keeps body.made _ _ body.todo (λ e made. bound_keeps context table e p ss last (with_made made body))

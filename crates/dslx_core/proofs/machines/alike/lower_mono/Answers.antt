@@ -9,10 +9,10 @@ use Rattle.dslx_core.proofs.OnMachines.OnAlike.Relation.{there_too}
 use Rattle.dslx_core.proofs.machines.alike.lower_mono.Goals as goal
 
 pub returns-clause-expression : goal.returns-clause-expression
-returns-clause-expression f = λ e place c d calls. there_too OneType _ _ (expression_alike true c d (calls_known c d calls) e place)
+returns-clause-expression f = λ e scope c d calls. there_too OneType _ _ (expression_alike true c d (calls_known c d calls) e scope)
 
 pub returns-clause-block : goal.returns-clause-block
-returns-clause-block f = λ b place c d calls. there_too OneType _ _ (block_alike true c d (calls_known c d calls) b place)
+returns-clause-block f = λ b scope c d calls. there_too OneType _ _ (block_alike true c d (calls_known c d calls) b scope)
 
 pub returns-clause-instance : goal.returns-clause-instance
 returns-clause-instance f = λ m items before other calls i.

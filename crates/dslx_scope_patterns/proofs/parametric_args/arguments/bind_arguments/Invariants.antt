@@ -1,6 +1,6 @@
 use Rattle.std.proofs.Common.{◌≡◌, [], drop, length}
 use Rattle.dslx_meaning.specs.Items.{meanings_of}
-use Rattle.dslx_scope_patterns.specs.Numbers.Placed.{locals_in_scope}
+use Rattle.dslx_scope_patterns.specs.Numbers.InScope.{locals_in_scope}
 use Rattle.dslx_scope_patterns.proofs.parametric_args.arguments.bind_arguments.Given as goal
 
 abbrev pub invariant-arguments : goal.invariant-arguments

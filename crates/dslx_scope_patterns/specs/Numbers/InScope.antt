@@ -20,7 +20,7 @@ globals_with callee m parametric_args = record { items = meanings_of m; parametr
 
 -- the types of arguments, and the scope where they are bound
 abbrev pub arguments_of : BodyEnv → List Field → Option (List DslxType × CoreScope)
-arguments_of known fields = and_then (argument_types known fields) (λ ts. and_then (arguments_in_scope fields ts (outer_scope known)) (λ place. Some (ts, place)))
+arguments_of known fields = and_then (argument_types known fields) (λ ts. and_then (arguments_in_scope fields ts (outer_scope known)) (λ scope. Some (ts, scope)))
 
 -- the same of what code has
 abbrev pub arguments_shown : CalleesByName → Module → List Binding → Option Arguments → Option (List DslxType × CoreScope)

@@ -1,4 +1,4 @@
--- What a pattern becomes at its place, whatever calls come to there.
+-- What a pattern becomes in its scope, whatever calls come to there.
 use Rattle.std.proofs.Common.{◌≡◌, [], Option, Some, None, refl, sym, ap, ◌∙◌}
 use Rattle.dslx_tree.specs.declared.pattern.Pattern.{Pattern}
 use Rattle.dslx_meaning.specs.Lists.{and_then}
@@ -16,12 +16,12 @@ use Rattle.dslx_scope_patterns.specs.declared.patterns.fresh.Outer.{Outer}
 
 -- what the law of patterns says
 abbrev pub KnowNoCalls : Type 0
-KnowNoCalls = (p : Pattern) (place : CoreScope) (t : DslxType) (c : CalleesByName) → shaped_at p (with_callee c place) t ≡ moved c (shaped_at p place t)
+KnowNoCalls = (p : Pattern) (scope : CoreScope) (t : DslxType) (c : CalleesByName) → shaped_at p (with_callee c scope) t ≡ moved c (shaped_at p scope t)
 
-pub placed : (p : Pattern) (t : DslxType) (o : Outer) (f g : Fresh) (found s : Option Shape) → KnowNoCalls → f ≡ record { names = []; count = o.count }
+pub in_scope : (p : Pattern) (t : DslxType) (o : Outer) (f g : Fresh) (found s : Option Shape) → KnowNoCalls → f ≡ record { names = []; count = o.count }
     → (lower_pattern_of_text p).lower (outer_scope o) (fresh_scope o f) t ≡ shaped_to found (fresh_scope o g) → found ≡ s
     → (callee : CalleesByName) → shaped_at p (scope_with callee o.count o.context) t ≡ and_then s (λ x. shaped x (behind g.names g.count (scope_with callee o.count o.context)))
-placed p t o f g found s know none is e callee =
+in_scope p t o f g found s know none is e callee =
     know p (outer_scope o) t callee
     ∙ ap (moved callee) (sym (ap (λ (h : Fresh). (lower_pattern_of_text p).lower (outer_scope o) (fresh_scope o h) t) none) ∙ is ∙ ap (λ (x : Option Shape). shaped_to x (fresh_scope o g)) e)
     ∙ by s
