@@ -22,3 +22,33 @@ pub mod OnLayout
 pub mod OnFifos
 -- the wires of a channel's end
 pub mod OnEnds
+-- operations on numbers
+pub mod OnOperators
+-- what they give
+pub mod OnGiving
+-- values on signals
+pub mod OnLeaves
+-- choices between values
+pub mod OnChoices
+-- the values of operations
+pub mod OnResults
+-- the values of nodes
+pub mod OnNodeValues
+-- a stage's nodes
+pub mod OnNodes
+-- what its sites do
+pub mod OnSites
+-- the stages of sites
+pub mod OnStaged
+-- registers from cycle to cycle
+pub mod OnHolding
+-- and behind reset
+pub mod OnResets
+-- what stages need
+pub mod OnServing
+-- flat words
+pub mod OnFlat
+-- what a pipeline asserts
+pub mod OnEvents
+-- and what its ends show of that
+pub mod OnAsked

@@ -22,3 +22,15 @@ pub mod Layout
 pub mod Fifos
 -- the wires of a channel's end
 pub mod Ends
+-- values on signals
+pub mod Leaves
+-- the wires of operations on numbers
+pub mod Operators
+-- what they promise
+pub mod Results
+-- the wires of choices between values
+pub mod Choices
+-- the signals of a proc's nodes
+pub mod Nodes
+-- what registers hold from cycle to cycle
+pub mod Holding

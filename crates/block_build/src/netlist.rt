@@ -1,2 +1,4 @@
 //! Netlists of pipelined hardware: lists of wires over ports and registers, and what they carry.
+pub mod holding;
 pub mod laws;
+pub mod values;

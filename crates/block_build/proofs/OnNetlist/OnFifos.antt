@@ -5,15 +5,11 @@ use Rattle.std.proofs.Math.Nat.{mod-eq_of_lt, add-mod_right}
 use Rattle.std.proofs.lemmas.Bool.Decides.{nat_tests}
 use Rattle.xb_bits.specs.Word.{Word, word}
 use Rattle.xb_bits.specs.Operations as op
-use Rattle.vlog_tree.specs.declared.expression.Binary.{Binary}
 use Rattle.vlog_tree.specs.declared.expression.Binary.TheVariants as binary
-use Rattle.vlog_tree.specs.Value.{Values, bit, atom_value, binary_value}
+use Rattle.vlog_tree.specs.Value.{Values, bit, atom_value}
 use Rattle.block_stage.specs.Fifo.Row.{Row, has_word, has_room, gives, takes, between, row_after}
 use Rattle.block_build.specs.Netlist.Fifos.{FifoNets, there_net, room_net, gives_net, takes_net, between_net, count_net, slot_net, IsFifo, FifoHeld, CountShown}
-use Rattle.block_build.proofs.OnNetlist.OnGates.{conjunction, choice}
-
-operated : (operator : Binary) (x a b u w : Word) → x ≡ binary_value operator a b → a ≡ u → b ≡ w → x ≡ binary_value operator u w
-operated operator x a b u w e f g = e ∙ ap (λ z. binary_value operator z b) f ∙ ap (binary_value operator u) g
+use Rattle.block_build.proofs.OnNetlist.OnGates.{conjunction, choice, operated}
 
 -- one less, and one more
 one_less : (w n : ℕ) → 0 < n → n < 2 ^ w → 1 < 2 ^ w → op.sub (word w n) (word w 1) ≡ word w (n - 1)

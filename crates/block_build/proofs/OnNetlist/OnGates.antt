@@ -3,7 +3,8 @@ use Rattle.std.proofs.Common.{◌≡◌, refl, ap, ◌∙◌, cond, true, false,
 use Rattle.std.specs.Prelude.{◌&&◌, ◌||◌, not, ◌==◌}
 use Rattle.xb_bits.specs.Word.{Word}
 use Rattle.xb_bits.specs.Operations as op
-use Rattle.vlog_tree.specs.Value.{bit}
+use Rattle.vlog_tree.specs.declared.expression.Binary.{Binary}
+use Rattle.vlog_tree.specs.Value.{bit, binary_value}
 
 -- bits
 not_bit : (x : Bool) → op.not (bit x) ≡ bit (not x)
@@ -40,3 +41,6 @@ chosen false x y = refl
 
 pub choice : (z c x y : Word) (t : Bool) → z ≡ cond (c.value == 0) y x → c ≡ bit t → z ≡ cond t x y
 choice z c x y t e f = e ∙ ap (λ (u : Word). cond (u.value == 0) y x) f ∙ chosen t x y
+
+pub operated : (operator : Binary) (x a b u w : Word) → x ≡ binary_value operator a b → a ≡ u → b ≡ w → x ≡ binary_value operator u w
+operated operator x a b u w e f g = e ∙ ap (λ z. binary_value operator z b) f ∙ ap (binary_value operator u) g

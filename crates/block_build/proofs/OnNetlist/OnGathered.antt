@@ -18,7 +18,7 @@ use Rattle.block_build.proofs.OnNetlist.OnTurns.{turns_are_read}
 use Rattle.block_build.proofs.OnNetlist.OnProcs.{procs_do_what_words_say, procs_do_their_turns}
 
 -- a stage's signals are right where they are by the words on them
-does_from : (b : Behavior) (channels : List Channel) (proc : Proc) → activation channels proc ≡ b → (s : Value) (words : ℕ → Word) (got : List Word) (i n : ℕ)
+pub does_from : (b : Behavior) (channels : List Channel) (proc : Proc) → activation channels proc ≡ b → (s : Value) (words : ℕ → Word) (got : List Word) (i n : ℕ)
     → got ≡ gathered (turns_by_words channels proc.nodes s words) words i → DoesTurns b s (turns_by_words channels proc.nodes s words) words got i n
 does_from b channels proc e s words got i n g =
     let turns = turns_by_words channels proc.nodes s words in

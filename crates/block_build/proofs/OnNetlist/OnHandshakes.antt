@@ -105,16 +105,16 @@ step_shown v ready site (Give w) false kept valid_word true h r d is = shown_by 
 step_shown v ready site (Give w) false kept valid_word false h r d is = shown_by v site _ _ _ refl refl refl (site_shows v ready site true false false h r is.0 d is.1)
 
 -- of a walk from a place on, what it does at earlier ones
-apart : (i k : ℕ) → (i ≡ k → ⊥) → eqb i k ≡ false
+pub apart : (i k : ℕ) → (i ≡ k → ⊥) → eqb i k ≡ false
 apart i k ne = grind (arith, nat_tests)
 
-same : (i : ℕ) → eqb i i ≡ true
+pub same : (i : ℕ) → eqb i i ≡ true
 same i = grind (arith, nat_tests)
 
 abbrev pub DoesNothing : ℕ → Walk → Type 0
 DoesNothing k walk = (asserts_at k walk ≡ false) × (goes_at k walk ≡ false)
 
-or_false : (x y : Bool) → x ≡ false → y ≡ false → (x || y) ≡ false
+pub or_false : (x y : Bool) → x ≡ false → y ≡ false → (x || y) ≡ false
 or_false x y e f = rw (e, f)
 
 nothing_followed : (k i : ℕ) (got : List Word) (step : Step) (next : List Word → Walk) → k < i → ((got' : List Word) → DoesNothing k (next got')) → DoesNothing k (follow i got next step)
@@ -131,14 +131,14 @@ nothing_followed k i got (Put w) next l h =
 nothing_followed k i got AwaitWord next l h = (or_false (eqb i k) false (apart i k (λ e. omega arith)) refl, refl)
 nothing_followed k i got (AwaitRoom w) next l h = (or_false (eqb i k) false (apart i k (λ e. omega arith)) refl, refl)
 
-nothing_before : (x : Circuit) (b : Behavior) (done : ℕ → Bool) (kept : ℕ → Word) (ports : Ports) (s : Value) (got : List Word) (i n k : ℕ) → k < i → DoesNothing k (walk_by x b done kept ports s got i n)
+pub nothing_before : (x : Circuit) (b : Behavior) (done : ℕ → Bool) (kept : ℕ → Word) (ports : Ports) (s : Value) (got : List Word) (i n k : ℕ) → k < i → DoesNothing k (walk_by x b done kept ports s got i n)
 nothing_before x b done kept ports s got i zero k l = (refl, refl)
 nothing_before x b done kept ports s got i (suc n) k l =
     nothing_followed k i got (x.step (b.turn s got i) (done i) (kept i) (ports.valid_word (chan_at b.sites i)) (ports.room (chan_at b.sites i))) (λ got'. walk_by x b done kept ports s got' (suc i) n) l
     (λ got'. nothing_before x b done kept ports s got' (suc i) n k (omega arith))
 
 -- at the place itself
-or_true : (x y : Bool) → x ≡ true → (x || y) ≡ true
+pub or_true : (x y : Bool) → x ≡ true → (x || y) ≡ true
 or_true x y e = rw e
 
 here_asks : (i : ℕ) (got : List Word) (step : Step) (next : List Word → Walk) → ((got' : List Word) → DoesNothing i (next got')) → asserts_at i (follow i got next step) ≡ step_asks step
@@ -158,7 +158,7 @@ here_goes i got AwaitWord next h = refl
 here_goes i got (AwaitRoom w) next h = refl
 
 -- and at later ones
-pass_by : (x y : Bool) → x ≡ false → (x || y) ≡ y
+pub pass_by : (x y : Bool) → x ≡ false → (x || y) ≡ y
 pass_by x y e = rw e
 
 later_shown : (v : Values) (j : ℕ) (sites : List SiteNets) (walk other : Walk)

@@ -1,19 +1,22 @@
 -- An IR proc does at a site what it does by a word for each site, where it received just those of the sites before that are on.
-use Rattle.std.proofs.Common.{◌≡◌, ℕ, zero, suc, ◌+◌, List, [], ◌∷◌, ◌++◌, drop, get_or, refl, sym, ap, ◌∙◌, arith, true, false, Bool}
-use Rattle.std.specs.Prelude.{if◌then◌else◌}
+use Rattle.std.proofs.Common.{◌≡◌, ℕ, zero, suc, ◌+◌, ◌≤◌, List, [], ◌∷◌, ◌++◌, drop, take, length, get_or, refl, sym, ap, subst, ◌∙◌, arith, true, false, Bool, Option, Some}
+use Rattle.std.specs.Prelude.{if◌then◌else◌, slice_get}
 use Rattle.xb_bits.specs.Word.{Word}
 use Rattle.xb_value.specs.declared.value.Value.{Value}
+use Rattle.net_core.specs.declared.net.Site.{Site}
 use Rattle.net_core.specs.Behavior.{Turn, Skip, Receive, Give}
 use Rattle.ir_tree.specs.declared.node.Node.{Node}
+use Rattle.ir_tree.specs.declared.node.Operand.{Operand}
 use Rattle.ir_tree.specs.declared.node.Role.{Role}
 use Rattle.ir_tree.specs.declared.node.Role.TheVariants as role
 use Rattle.ir_tree.specs.declared.package.Channel.{Channel}
 use Rattle.ir_tree.specs.declared.package.Proc.{Proc}
 use Rattle.ir_tree.specs.Constants.{no_value}
-use Rattle.ir_tree.specs.NodeValues.{role_of, Setting, is_on, received, pure_value, no_word, next_site, role_value}
-use Rattle.ir_tree.specs.Activations.{sent_by, turns_by, turns_from, first_word, words_from, site_words, activation}
+use Rattle.ir_tree.specs.NodeValues.{role_of, Setting, is_on, operand_value, received, pure_value, no_word, next_site, role_value, values_from, node_values, count_sites}
+use Rattle.ir_tree.specs.Activations.{sites_by, sites_of, sent_by, turns_by, turns_from, first_word, words_from, site_words, activation}
 use Rattle.block_build.specs.Netlist.Turns.{grown, DoesTurns}
 use Rattle.block_build.specs.Netlist.Procs.{setting_by, turns_by_words, gathered}
+use Rattle.block_build.specs.Netlist.Nodes.{site_index}
 
 -- ---- what lists hold behind a node, by its role
 
@@ -215,3 +218,140 @@ pub procs_do_their_turns : (channels : List Channel) (proc : Proc) (s : Value) (
     → let turns = turns_by_words channels proc.nodes s words in DoesTurns (activation channels proc) s turns words (gathered turns words i) i n
 procs_do_their_turns channels proc s words i zero = tt
 procs_do_their_turns channels proc s words i (suc n) = (procs_do_what_words_say channels proc s words i, procs_do_their_turns channels proc s words (suc i) n)
+
+-- ---- the values of all nodes, where all words are received
+
+pub count_grows : (i : ℕ) (nodes : List Node) → i ≤ count_sites i nodes
+unfolding count_sites
+count_grows i [] = omega arith
+count_grows i (n ∷ ns) = let rest = count_grows (next_site i (role_of n)) ns in omega (arith, rest, step (role_of n))
+  where
+    step : (r : Role) → i ≤ next_site i r
+    step role.Pure = omega arith
+    step (role.Receive predicate c) = omega arith
+    step (role.Send predicate c) = omega arith
+
+abbrev AllSame : List Channel → Value → (ℕ → Word) → (ℕ → Word) → List Node → Type 0
+AllSame channels s words others ns =
+    (vs : List Value) (j : ℕ) (l : List Word) (x : ℕ) → ((y : ℕ) → others (j + y) ≡ site_words (words_from channels s vs l ns) y) → l ≡ prefix_words (setting_by channels s words) vs j ns x → count_sites j ns ≤ j + x
+    → values_from (setting_by channels s others) vs j ns ≡ values_from (setting_by channels s words) vs j ns
+
+values_same : (channels : List Channel) (s : Value) (words others : ℕ → Word) (ns : List Node) (values : List Value) (k : ℕ) (left : List Word) (r : ℕ)
+    → ((x : ℕ) → others (k + x) ≡ site_words (words_from channels s values left ns) x) → left ≡ prefix_words (setting_by channels s words) values k ns r → count_sites k ns ≤ k + r
+    → values_from (setting_by channels s others) values k ns ≡ values_from (setting_by channels s words) values k ns
+unfolding values_from count_sites words_at prefix_by words_on take_word
+values_same channels s words others [] values k left r same is all = refl
+values_same channels s words others (n ∷ ns) values k left r same is all =
+    go (role_of n) r (λ x. same x ∙ ap (λ ws. site_words ws x) (words_by_role channels s values left n ns (role_of n) refl)) (is ∙ prefix_at m values k n ns r (role_of n) refl) all
+    (λ vs j l x. values_same channels s words others ns vs j l x)
+  where
+    m : Setting
+    m = setting_by channels s words
+
+    m' : Setting
+    m' = setting_by channels s others
+
+    go : (rl : Role) (r : ℕ) → ((x : ℕ) → others (k + x) ≡ site_words (words_at channels s values left n ns rl) x) → left ≡ prefix_by m values k n rl r (λ vs j x. prefix_words m vs j ns x)
+        → count_sites (next_site k rl) ns ≤ k + r → AllSame channels s words others ns
+        → values_from m' (values ++ role_value m' values k n rl ∷ []) (next_site k rl) ns ≡ values_from m (values ++ role_value m values k n rl ∷ []) (next_site k rl) ns
+    go role.Pure r w l a ih = ih (values ++ pure_value n s values ∷ []) k left r w l a
+    go (role.Receive predicate c) zero w l a ih = absurd (let g = count_grows (suc k) ns in omega (arith, g, a))
+    go (role.Receive predicate c) (suc r) w l a ih = by_on (is_on s values predicate) w l
+      where
+        by_on : (on : Bool) → ((x : ℕ) → others (k + x) ≡ site_words (words_on channels s values left ns c on) x)
+            → left ≡ take_word on (words k) (prefix_words m (values ++ received channels c on (words k) ∷ []) (suc k) ns r)
+            → values_from m' (values ++ received channels c on (others k) ∷ []) (suc k) ns ≡ values_from m (values ++ received channels c on (words k) ∷ []) (suc k) ns
+        by_on true w l =
+            let rest = prefix_words m (values ++ received channels c true (words k) ∷ []) (suc k) ns r in
+            let zero_on : k + zero ≡ k = omega arith in
+            let here : others k ≡ words k = ap others (sym zero_on) ∙ w zero ∙ ap first_word l in
+            ap (λ x. values_from m' (values ++ received channels c true x ∷ []) (suc k) ns) here
+            ∙ ih (values ++ received channels c true (words k) ∷ []) (suc k) rest r
+            (λ y. let e : suc k + y ≡ k + suc y = omega arith in
+            ap others e ∙ w (suc y) ∙ ap (λ ws. site_words (words_from channels s (values ++ received channels c true (first_word ws) ∷ []) (drop 1 ws) ns) y) l) refl (omega (arith, a))
+        by_on false w l =
+            ih (values ++ received channels c false (words k) ∷ []) (suc k) left r
+            (λ y. let e : suc k + y ≡ k + suc y = omega arith in ap others e ∙ w (suc y)) l (omega (arith, a))
+    go (role.Send predicate c) zero w l a ih = absurd (let g = count_grows (suc k) ns in omega (arith, g, a))
+    go (role.Send predicate c) (suc r) w l a ih =
+        ih (values ++ no_value ∷ []) (suc k) left r (λ y. let e : suc k + y ≡ k + suc y = omega arith in ap others e ∙ w (suc y)) l (omega (arith, a))
+
+next_of_proc : (channels : List Channel) (proc : Proc) (s : Value) (got : List Word)
+    → (activation channels proc).next_state s got ≡ operand_value s (node_values (setting_by channels s (site_words (words_from channels s [] got proc.nodes))) proc.nodes) proc.next
+unfolding activation
+next_of_proc channels proc s got = refl
+
+-- the next state is the value of its operand by words that are all received
+pub next_state_is_by_words : (channels : List Channel) (proc : Proc) (s : Value) (words : ℕ → Word) (i : ℕ) → count_sites 0 proc.nodes ≤ i
+    → (activation channels proc).next_state s (gathered (turns_by_words channels proc.nodes s words) words i) ≡ operand_value s (node_values (setting_by channels s words) proc.nodes) proc.next
+next_state_is_by_words channels proc s words i all =
+    let got = gathered (turns_by_words channels proc.nodes s words) words i in
+    next_of_proc channels proc s got
+    ∙ ap (λ vs. operand_value s vs proc.next)
+    (values_same channels s words (site_words (words_from channels s [] got proc.nodes)) proc.nodes [] 0 got i
+    (λ x. let e : 0 + x ≡ x = omega arith in ap (site_words (words_from channels s [] got proc.nodes)) e)
+    (gathered_are channels proc.nodes s words i) (omega (arith, all)))
+
+-- the sites of a proc
+sites_counted : (i : ℕ) (nodes : List Node) → count_sites i nodes ≡ i + length (sites_of nodes)
+unfolding count_sites
+sites_counted i [] = omega arith
+sites_counted i (n ∷ ns) = go (role_of n) (λ k. sites_counted k ns)
+  where
+    go : (rl : Role) → ((k : ℕ) → count_sites k ns ≡ k + length (sites_of ns)) → count_sites (next_site i rl) ns ≡ i + length (sites_by rl (sites_of ns))
+    go role.Pure ih = ih i
+    go (role.Receive predicate c) ih = omega (arith, ih (suc i))
+    go (role.Send predicate c) ih = omega (arith, ih (suc i))
+
+pub sites_are : (channels : List Channel) (proc : Proc) → (activation channels proc).sites ≡ sites_of proc.nodes
+unfolding activation
+sites_are channels proc = refl
+
+pub site_count_is : (channels : List Channel) (proc : Proc) → count_sites 0 proc.nodes ≡ length (activation channels proc).sites
+site_count_is channels proc = let e = sites_counted 0 proc.nodes in omega (arith, e, ap length (sites_are channels proc))
+
+abbrev IsSiteOf : List Site → ℕ → Role → Type 0
+IsSiteOf sites i role.Pure = Unit {0}
+IsSiteOf sites i (role.Receive predicate c) = slice_get sites i ≡ Some (record { chan = c; sends = false })
+IsSiteOf sites i (role.Send predicate c) = slice_get sites i ≡ Some (record { chan = c; sends = true })
+
+site_there : (i : ℕ) (nodes : List Node) (k : ℕ) (n : Node) → slice_get nodes k ≡ Some n → (r : ℕ) → count_sites i (take k nodes) ≡ i + r → IsSiteOf (sites_of nodes) r (role_of n)
+unfolding count_sites
+site_there i [] k n e r c = absurd (cc)
+site_there i (x ∷ ns) zero n e r c =
+    let same : x ≡ n = cc in
+    let none : r ≡ 0 = omega (arith, c) in
+    subst (λ y. IsSiteOf (sites_of (x ∷ ns)) r (role_of y)) same (subst (λ j. IsSiteOf (sites_of (x ∷ ns)) j (role_of x)) (sym none) (here (role_of x)))
+  where
+    here : (rl : Role) → IsSiteOf (sites_by rl (sites_of ns)) 0 rl
+    here role.Pure = tt
+    here (role.Receive predicate d) = refl
+    here (role.Send predicate d) = refl
+site_there i (x ∷ ns) (suc k) n e r c = later (role_of x) r c (λ j y d. site_there j ns k n e y d)
+  where
+    there : (rl : Role) (t : Site) (r : ℕ) → IsSiteOf (sites_of ns) r rl → IsSiteOf (t ∷ sites_of ns) (suc r) rl
+    there role.Pure t r h = tt
+    there (role.Receive predicate d) t r h = h
+    there (role.Send predicate d) t r h = h
+
+    later : (rl : Role) (r : ℕ) → count_sites (next_site i rl) (take k ns) ≡ i + r → ((j y : ℕ) → count_sites j (take k ns) ≡ j + y → IsSiteOf (sites_of ns) y (role_of n)) → IsSiteOf (sites_by rl (sites_of ns)) r (role_of n)
+    later role.Pure r c ih = ih i r c
+    later (role.Receive predicate d) zero c ih = absurd (let g = count_grows (suc i) (take k ns) in omega (arith, g, c))
+    later (role.Receive predicate d) (suc r) c ih = there (role_of n) (record { chan = d; sends = false }) r (ih (suc i) r (omega (arith, c)))
+    later (role.Send predicate d) zero c ih = absurd (let g = count_grows (suc i) (take k ns) in omega (arith, g, c))
+    later (role.Send predicate d) (suc r) c ih = there (role_of n) (record { chan = d; sends = true }) r (ih (suc i) r (omega (arith, c)))
+
+-- a receive's site is one that receives
+pub receive_site : (channels : List Channel) (proc : Proc) (k : ℕ) (n : Node) (predicate : Option Operand) (c : ℕ) → slice_get proc.nodes k ≡ Some n → role_of n ≡ role.Receive predicate c
+    → slice_get (activation channels proc).sites (site_index proc.nodes k) ≡ Some (record { chan = c; sends = false })
+receive_site channels proc k n predicate c e is =
+    let at : count_sites 0 (take k proc.nodes) ≡ 0 + site_index proc.nodes k = omega arith in
+    ap (λ sites. slice_get sites (site_index proc.nodes k)) (sites_are channels proc)
+    ∙ subst (IsSiteOf (sites_of proc.nodes) (site_index proc.nodes k)) is (site_there 0 proc.nodes k n e (site_index proc.nodes k) at)
+
+pub send_site : (channels : List Channel) (proc : Proc) (k : ℕ) (n : Node) (predicate : Option Operand) (c : ℕ) → slice_get proc.nodes k ≡ Some n → role_of n ≡ role.Send predicate c
+    → slice_get (activation channels proc).sites (site_index proc.nodes k) ≡ Some (record { chan = c; sends = true })
+send_site channels proc k n predicate c e is =
+    let at : count_sites 0 (take k proc.nodes) ≡ 0 + site_index proc.nodes k = omega arith in
+    ap (λ sites. slice_get sites (site_index proc.nodes k)) (sites_are channels proc)
+    ∙ subst (IsSiteOf (sites_of proc.nodes) (site_index proc.nodes k)) is (site_there 0 proc.nodes k n e (site_index proc.nodes k) at)

@@ -123,7 +123,7 @@ nexts_shown v q is c ports (stage ∷ more) j comes wired e stage_regs bits show
     )
 
 -- what the move of a stage says
-move_shown : (v : Values) (q : Pipeline) (c : Registers) (ports : Ports) (stages : List StageNets) (j k : ℕ) → k < length stages → ShowStages v q c ports j stages
+pub move_shown : (v : Values) (q : Pipeline) (c : Registers) (ports : Ports) (stages : List StageNets) (j k : ℕ) → k < length stages → ShowStages v q c ports j stages
     → atom_value v (move_at stages k) ≡ bit (moves_by circuit q c ports (k + j))
 move_shown v q c ports [] j k l shown = absurd (omega (arith, l))
 move_shown v q c ports (stage ∷ more) j zero l shown = let e : zero + j ≡ j = omega arith in shown.1 ∙ ap (λ i. bit (moves_by circuit q c ports i)) (sym e)

@@ -4,6 +4,9 @@ use Rattle.std.specs.Prelude.{◌≡◌, ℕ, suc, ◌<◌, Bool, true, false, �
 use Rattle.std.specs.List.{list_any}
 use Rattle.ir_tree.specs.declared.node.Operand.{Operand}
 use Rattle.ir_tree.specs.declared.node.Operand.TheVariants as operand
+use Rattle.ir_tree.specs.declared.node.Node.{Node}
+use Rattle.ir_tree.specs.declared.package.Proc.{Proc}
+use Rattle.block_build.specs.Netlist.Nodes.{operands_read}
 
 -- who reads operands in a stage: a node, with its predicate and the parts of its attributes that are read; and in the stage in
 -- which an activation gives the turn back, the next state
@@ -34,3 +37,11 @@ is_carried stage readers o j = nat_lt (stage o) j && nat_le j (last_read readers
 pub record ServesAll (stage : Operand → ℕ) (readers : List StageReader) (carried : Operand → ℕ → Bool) : Type 0 where
   pub read : (i : ℕ) (reader : StageReader) (o : Operand) → slice_get readers i ≡ Some reader → reads_operand o reader ≡ true → stage o < reader.stage → carried o reader.stage ≡ true
   pub passed_on : (o : Operand) (j : ℕ) → stage o < j → carried o (suc j) ≡ true → carried o j ≡ true
+
+-- the readers of a proc: each node in its stage, and the next state in the stage in which an activation gives the turn back
+abbrev pub node_readers : (Operand → ℕ) → ℕ → List Node → List StageReader
+node_readers stage k [] = []
+node_readers stage k (n ∷ nodes) = record { stage = stage (operand.Node k); operands = operands_read n } ∷ node_readers stage (suc k) nodes
+
+abbrev pub proc_readers : (Operand → ℕ) → Proc → ℕ → List StageReader
+proc_readers stage proc last = record { stage = last; operands = proc.next ∷ [] } ∷ node_readers stage 0 proc.nodes

@@ -1,0 +1,89 @@
+//! Laws of what a pipeline's registers hold, from cycle to cycle, each the contract of a function without a body.
+
+ghost use Rattle.std.specs.Prelude.{◌≡◌, ◌≤◌, ◌==◌, ℕ, Bool, true, false, not, is_some, List, length, Some};
+ghost use Rattle.xb_bits.specs.Word.{Word};
+ghost use Rattle.net_core.specs.declared.net.Site.{Site};
+ghost use Rattle.net_core.specs.Cuts.{words_sent, count_received};
+ghost use Rattle.block_stage.specs.Fifo.Fifo.{next_word};
+ghost use Rattle.xb_value.specs.declared.value.Value.{Value};
+ghost use Rattle.xb_value.specs.Typing.{IsOfType};
+ghost use Rattle.ir_tree.specs.declared.ir_type.IrType.{IrType};
+ghost use Rattle.ir_tree.specs.declared.node.Node.{Node};
+ghost use Rattle.ir_tree.specs.Types.{ty_of};
+ghost use Rattle.ir_verify.specs.Typed.Typed.{HaveTypes};
+ghost use Rattle.ir_tree.specs.declared.node.Operand.{Operand};
+ghost use Rattle.ir_tree.specs.declared.node.Operand.TheVariants as operand;
+ghost use Rattle.ir_tree.specs.declared.package.Channel.{Channel};
+ghost use Rattle.ir_tree.specs.declared.package.Proc.{Proc};
+ghost use Rattle.vlog_tree.specs.declared.expression.Atom.{Atom};
+ghost use Rattle.vlog_tree.specs.Value.{Values, bit, atom_value};
+ghost use Rattle.block_stage.specs.Machine.Pipeline.{Pipeline};
+ghost use Rattle.block_stage.specs.Machine.Cycle.{Ports, Registers, circuit, opened};
+ghost use Rattle.block_stage.specs.Machine.Circuits.{cycle_by, asserts_by};
+ghost use Rattle.block_build.specs.Netlist.Ends.{some_wires, some_net, word_wires, word_net, all_sites, end_requests};
+ghost use Rattle.block_build.specs.Netlist.Wires.{AreWired};
+ghost use Rattle.block_build.specs.Netlist.Stages.{StageNets, AreStages, AreHeld, ShowStages};
+ghost use Rattle.block_build.specs.Netlist.Leaves.{ShowsValue};
+ghost use Rattle.block_build.specs.Netlist.Layout.{is_carried, proc_readers};
+ghost use Rattle.block_build.specs.Netlist.Nodes.{IsEarlier, ReadEarlierNodes, HaveOperandTypes, ProcNets};
+ghost use Rattle.block_build.specs.Netlist.Holding.{CarriesOn, AllPortsShown, AreReset, PipelineMade, RegistersGoOn, PipelineHeld};
+
+/// Where the registers of a proc's pipeline hold what its machine's do, and its sites find at their ports what the machine
+/// finds, its wires show what the machine does in a cycle without reset, and its registers hold next what the machine's hold.
+/// Values that are carried on, words that were received, the state: all that `control_is_the_machines` asks of the signals
+/// that control reads.
+pub fn registers_hold_the_machines()
+    ensures read { (v : Values) (run : Atom) (channels : List Channel) (proc : Proc) (nets : ProcNets) (stage : Operand → ℕ) (carried : Operand → ℕ → Bool) (q : Pipeline) (stages : List StageNets) (c : Registers) (ports : Ports) →
+        PipelineMade v run channels proc nets stage carried q stages → PipelineHeld v channels proc nets stage carried q stages c →
+        AllPortsShown v proc nets q ports 0 stages → AreHeld v q c ports 0 stages }
+    ensures now { (v : Values) (run : Atom) (channels : List Channel) (proc : Proc) (nets : ProcNets) (stage : Operand → ℕ) (carried : Operand → ℕ → Bool) (q : Pipeline) (stages : List StageNets) (c : Registers) (ports : Ports) →
+        PipelineMade v run channels proc nets stage carried q stages → PipelineHeld v channels proc nets stage carried q stages c →
+        AllPortsShown v proc nets q ports 0 stages → atom_value v run ≡ bit true → ShowStages v q c ports 0 stages }
+    ensures next { (v next : Values) (run : Atom) (channels : List Channel) (proc : Proc) (nets : ProcNets) (stage : Operand → ℕ) (carried : Operand → ℕ → Bool) (q : Pipeline) (stages : List StageNets) (c : Registers) (ports : Ports) →
+        PipelineMade v run channels proc nets stage carried q stages → atom_value v run ≡ bit true → PipelineHeld v channels proc nets stage carried q stages c →
+        AllPortsShown v proc nets q ports 0 stages → RegistersGoOn v next proc nets stage carried q stages →
+        PipelineHeld next channels proc nets stage carried q stages (cycle_by circuit q c ports) }
+    ensures reset { (v : Values) (channels : List Channel) (proc : Proc) (nets : ProcNets) (stage : Operand → ℕ) (carried : Operand → ℕ → Bool) (q : Pipeline) (stages : List StageNets) →
+        AreReset v 0 stages → ShowsValue v (nets.shown 0 operand.State) q.proc.opening → IsOfType (ty_of proc.state) q.proc.opening →
+        PipelineHeld v channels proc nets stage carried q stages (opened q) }
+{}
+
+/// So what stands at the ends of its channels is what its machine asserts there in that cycle: whether a word is valid, and
+/// which, where at most one site of the end is asserted; and whether it is ready for one. In reset it is neither.
+pub fn ends_show_the_machines()
+    ensures valid { (v : Values) (run : Atom) (channels : List Channel) (proc : Proc) (nets : ProcNets) (stage : Operand → ℕ) (carried : Operand → ℕ → Bool) (q : Pipeline) (stages : List StageNets) (c : Registers) (ports : Ports) →
+        PipelineMade v run channels proc nets stage carried q stages → PipelineHeld v channels proc nets stage carried q stages c →
+        AllPortsShown v proc nets q ports 0 stages → atom_value v run ≡ bit true →
+        (chan k : ℕ) (zeros : Atom) → let requests = end_requests q.proc.behavior.sites chan true nets.sent 0 (all_sites stages) in
+        AreWired v k (some_wires k zeros requests) → atom_value v zeros ≡ bit false →
+        atom_value v (some_net k zeros requests) ≡ bit (is_some (next_word (words_sent q.proc.behavior.sites chan (asserts_by circuit q c ports)))) }
+    ensures word { (v : Values) (run : Atom) (channels : List Channel) (proc : Proc) (nets : ProcNets) (stage : Operand → ℕ) (carried : Operand → ℕ → Bool) (q : Pipeline) (stages : List StageNets) (c : Registers) (ports : Ports) →
+        PipelineMade v run channels proc nets stage carried q stages → PipelineHeld v channels proc nets stage carried q stages c →
+        AllPortsShown v proc nets q ports 0 stages → atom_value v run ≡ bit true →
+        (chan width k : ℕ) (zeros : Atom) → let requests = end_requests q.proc.behavior.sites chan true nets.sent 0 (all_sites stages) in
+        AreWired v k (word_wires width k zeros requests) → length (words_sent q.proc.behavior.sites chan (asserts_by circuit q c ports)) ≤ 1 →
+        (w : Word) → next_word (words_sent q.proc.behavior.sites chan (asserts_by circuit q c ports)) ≡ Some w →
+        atom_value v (word_net k zeros requests) ≡ w }
+    ensures ready { (v : Values) (run : Atom) (channels : List Channel) (proc : Proc) (nets : ProcNets) (stage : Operand → ℕ) (carried : Operand → ℕ → Bool) (q : Pipeline) (stages : List StageNets) (c : Registers) (ports : Ports) →
+        PipelineMade v run channels proc nets stage carried q stages → PipelineHeld v channels proc nets stage carried q stages c →
+        AllPortsShown v proc nets q ports 0 stages → atom_value v run ≡ bit true →
+        (chan k : ℕ) (zeros : Atom) → let requests = end_requests q.proc.behavior.sites chan false nets.sent 0 (all_sites stages) in
+        AreWired v k (some_wires k zeros requests) → atom_value v zeros ≡ bit false →
+        atom_value v (some_net k zeros requests) ≡ bit (not (count_received q.proc.behavior.sites chan (asserts_by circuit q c ports) == 0)) }
+    ensures reset { (v : Values) (run : Atom) (stages : List StageNets) → AreStages v run stages → atom_value v run ≡ bit false →
+        (sites : List Site) (chan : ℕ) (sends : Bool) (sent : ℕ → Atom) (k : ℕ) (zeros : Atom) → let requests = end_requests sites chan sends sent 0 (all_sites stages) in
+        AreWired v k (some_wires k zeros requests) → atom_value v zeros ≡ bit false → atom_value v (some_net k zeros requests) ≡ bit false }
+{}
+
+/// The layout serves each stage of a proc with what its nodes read of earlier ones, and the next state where it is read; and
+/// it has copies of the state and of nodes alone.
+pub fn the_layout_serves_procs()
+    ensures { (proc : Proc) (last : ℕ) (stage : Operand → ℕ) → ReadEarlierNodes proc.nodes → IsEarlier (length proc.nodes) proc.next →
+        CarriesOn proc last stage (is_carried stage (proc_readers stage proc last)) }
+{}
+
+/// Where the nodes have values of their types, operands have, also those that aren't there.
+pub fn operands_have_types()
+    ensures { (state : IrType) (nodes : List Node) (s : Value) (values : List Value) → IsOfType (ty_of state) s → HaveTypes nodes values →
+        HaveOperandTypes state nodes s values }
+{}

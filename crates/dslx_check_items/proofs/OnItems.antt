@@ -1,0 +1,2 @@
+-- The first item of a name, and its number.
+pub mod Numbered

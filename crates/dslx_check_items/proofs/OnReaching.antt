@@ -1,0 +1,2 @@
+-- the items that an item's text mentions, by number
+pub mod Reached

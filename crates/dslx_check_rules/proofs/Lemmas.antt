@@ -1,0 +1,12 @@
+-- the order of faults
+pub mod Orders
+-- faults, and what is kept of them
+pub mod Seen
+-- lists of the same faults
+pub mod Members
+-- sizes, and what is kept of them
+pub mod Sizes
+-- rows with one more
+pub mod Rows
+-- the types of numbers, in later tables too
+pub mod Types

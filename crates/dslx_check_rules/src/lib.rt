@@ -1,0 +1,30 @@
+//! The rules of DSLX that need no tree: what the parts of a text come to, by what their own parts come to.
+//!
+//! Types are numbers of an interning table, so that a type which shares its parts costs what is written of it. Of faults the first one is
+//! kept, and whether a rule is broken.
+#![tactic(auto)]
+
+mod binary;
+mod faults;
+mod kinds;
+pub mod laws;
+mod limits;
+mod operands;
+pub mod rule;
+mod sizes;
+mod table;
+mod typing;
+
+pub use binary::{Operand, binary_faults, binary_type, one_bit_type, unless_one_bit_type};
+pub use faults::Faults;
+pub use kinds::{
+    array_in, bits_in, bits_or_enum, element_type, holds_token, is_array, is_bits, is_bits_or_enum,
+    is_bool, is_token, is_tuple, is_unit, is_unsigned, part_type, width_of_type,
+};
+pub use limits::type_limits;
+pub use operands::{
+    unless_array, unless_bits, unless_bits_or_enum, unless_bool, unless_unsigned, wanted_faults,
+};
+pub use sizes::{MOST_NODES, one_and, plus_size, times_size};
+pub use table::{TypeId, TypeMeasures, TypeRow, TypeTable};
+pub use typing::{Typing, limited, no_token, settled, unlimited};

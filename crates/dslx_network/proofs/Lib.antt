@@ -1,0 +1,4 @@
+-- counts
+pub mod OnCount
+-- families
+pub mod OnFamily

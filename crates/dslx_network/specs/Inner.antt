@@ -1,0 +1,4 @@
+-- how many procs and channels there are
+pub mod Counts
+-- procs that are still to be elaborated
+pub mod Pending
