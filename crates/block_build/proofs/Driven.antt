@@ -41,13 +41,13 @@ asserted_all : (block : Block) (state : State) (row : InputRow) (p : ℕ) → ro
 asserted_all block state row p r =
     ap (λ t. asks_if t (slice_get state.machines p) (ports_in block state row.ports)) r ∙ asks_all (slice_get state.machines p) (ports_in block state row.ports)
 
-ready_is : (block : Block) (state : State) (row : InputRow) (c : ℕ) → row.rst ≡ false → is_ready block state row c ≡ is_reader_ready block state (ports_in block state row.ports) c
+pub ready_is : (block : Block) (state : State) (row : InputRow) (c : ℕ) → row.rst ≡ false → is_ready block state row c ≡ is_reader_ready block state (ports_in block state row.ports) c
 ready_is block state row c r = let e = asserted_all block state row (receiver_of block c) r in rw e refl
 
-offer_is : (block : Block) (state : State) (row : InputRow) (c : ℕ) → row.rst ≡ false → offers block state row c ≡ valid_data block state (ports_in block state row.ports) c
+pub offer_is : (block : Block) (state : State) (row : InputRow) (c : ℕ) → row.rst ≡ false → offers block state row c ≡ valid_data block state (ports_in block state row.ports) c
 offer_is block state row c r = let e = asserted_all block state row (sender_of block c) r in rw e refl
 
-next_is : (block : Block) (state : State) (row : InputRow) → row.rst ≡ false → after_row block state row ≡ one_row block state row.ports
+pub next_is : (block : Block) (state : State) (row : InputRow) → row.rst ≡ false → after_row block state row ≡ one_row block state row.ports
 next_is block state row r = rw r refl
 
 -- where a block stands after rows with a reset among them

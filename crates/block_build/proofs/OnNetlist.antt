@@ -52,3 +52,11 @@ pub mod OnFlat
 pub mod OnEvents
 -- and what its ends show of that
 pub mod OnAsked
+-- a cycle of a block
+pub mod OnBlocks
+-- and all its rows
+pub mod OnRuns
+-- the numbers on wires
+pub mod OnRanges
+-- procs of verified packages
+pub mod OnVerified

@@ -34,3 +34,5 @@ pub mod Choices
 pub mod Nodes
 -- what registers hold from cycle to cycle
 pub mod Holding
+-- the netlist of a block
+pub mod Blocks

@@ -4,6 +4,7 @@ ghost use Rattle.std.specs.Prelude.{◌≡◌, ◌+◌, ◌++◌, List, Some, If
 ghost use Rattle.base.specs.Lists.Prefix.{IsPrefix};
 ghost use Rattle.dslx_meaning.specs.Types.{unsigned};
 ghost use Rattle.dslx_meaning.specs.Rules.ConstantRules as constants;
+ghost use Rattle.dslx_meaning.specs.Rules.ControlRules as control;
 ghost use Rattle.dslx_meaning.specs.Rules.OperatorRules as the;
 ghost use Rattle.dslx_meaning.specs.Rules.RuleNumbers as asks;
 ghost use Rattle.dslx_check_rules.specs.Inner.Results.{binary_result};
@@ -78,6 +79,31 @@ pub fn one_bit_type(types: &TypeTable, left: TypeId, right: TypeId) -> bool
 {
     let is_one = types.same(left, right);
     is_bits(types, left) && is_one
+}
+
+/// The type of the ends of a range, where they have one.
+pub fn same_ends(types: &TypeTable, from: Option<TypeId>, to: Option<TypeId>) -> Option<TypeId>
+    ensures is { (names : ItemNames) (later : List Row) → AreDistinct names → IsPrefix types.now later → HasRowIf types.now from → HasRowIf types.now to
+        → type_if names later result ≡ control.same_ends (type_if names later from) (type_if names later to) }
+    ensures there { HasRowIf types.now from → HasRowIf types.now result }
+{
+    match (from, to) {
+        (Some(t), Some(u)) => same_end(types, t, u),
+        _ => None,
+    }
+}
+
+/// The same where both have a type.
+fn same_end(types: &TypeTable, from: TypeId, to: TypeId) -> Option<TypeId>
+    ensures is { (names : ItemNames) (later : List Row) → AreDistinct names → IsPrefix types.now later → HasRow types.now from → HasRow types.now to
+        → type_if names later result ≡ control.same_ends (Some (type_at names later from)) (Some (type_at names later to)) }
+    ensures there { HasRow types.now from → HasRowIf types.now result }
+{
+    if one_bit_type(types, from, to) {
+        Some(from)
+    } else {
+        None
+    }
 }
 
 /// The operands that have types are of one unsigned type.

@@ -15,15 +15,18 @@ mod sizes;
 mod table;
 mod typing;
 
-pub use binary::{Operand, binary_faults, binary_type, one_bit_type, unless_one_bit_type};
+pub use binary::{
+    Operand, binary_faults, binary_type, one_bit_type, same_ends, unless_one_bit_type,
+};
 pub use faults::Faults;
 pub use kinds::{
     array_in, bits_in, bits_or_enum, element_type, holds_token, is_array, is_bits, is_bits_or_enum,
     is_bool, is_token, is_tuple, is_unit, is_unsigned, part_type, width_of_type,
 };
-pub use limits::type_limits;
+pub use limits::{type_limits, word_limit};
 pub use operands::{
-    unless_array, unless_bits, unless_bits_or_enum, unless_bool, unless_unsigned, wanted_faults,
+    held_faults, token_faults, unit_faults, unless_array, unless_bits, unless_bits_or_enum,
+    unless_bool, unless_unsigned, wanted_faults,
 };
 pub use sizes::{MOST_NODES, one_and, plus_size, times_size};
 pub use table::{TypeId, TypeMeasures, TypeRow, TypeTable};

@@ -3,6 +3,7 @@
 ghost use Rattle.std.specs.Prelude.{◌≡◌, ℕ, List, Some};
 ghost use Rattle.base.specs.Lists.Prefix.{IsPrefix};
 ghost use Rattle.dslx_meaning.specs.Rules.TypeEnvs as the;
+ghost use Rattle.dslx_meaning.specs.Rules.ProcRules as procs;
 ghost use Rattle.dslx_meaning.specs.declared.ty.DslxType.{DslxType};
 ghost use Rattle.dslx_check_rules.specs.Measures.{least_wide, measures_of};
 ghost use Rattle.dslx_check_rules.specs.Seen.{seen};
@@ -51,4 +52,21 @@ fn widths_passed(end: u32, too_wide: Option<u64>) -> Faults
             broken: false,
         },
     }
+}
+
+/// The limit on a channel's words, which stands at their type.
+pub fn word_limit(types: &TypeTable, end: u32, ty: Option<TypeId>) -> Faults
+    ensures { (names : ItemNames) (later : List Row) → IsPrefix types.now later → HasRowIf types.now ty → result ≡ seen (procs.word_limit end (type_if names later ty)) }
+{
+    match ty {
+        None => Faults::none(),
+        Some(ty) => word_passed(end, types.measures(ty)),
+    }
+}
+
+/// The same of words of a type of this size.
+fn word_passed(end: u32, measures: TypeMeasures) -> Faults
+    ensures { (t : DslxType) → measures ≡ measures_of t → result ≡ seen (procs.word_limit end (Some t)) }
+{
+    Faults::passes(What::Word, 128, end, measures.flat)
 }

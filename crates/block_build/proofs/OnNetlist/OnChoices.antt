@@ -22,6 +22,7 @@ use Rattle.block_build.specs.Netlist.Gates.{net}
 use Rattle.block_build.specs.Netlist.Leaves.{leaves_of, ShowsValue, nets, leaf_widths, total_width, cut_into, AreSome}
 use Rattle.block_build.specs.Netlist.Operators.{part_of}
 use Rattle.block_build.specs.Netlist.Choices.{choice_wires, pick_wires, chosen_below, receive_wires}
+use Rattle.block_build.specs.Netlist.Holding.{AreCarriedOn}
 use Rattle.block_build.proofs.OnNetlist.OnGates.{choice, operated}
 use Rattle.block_build.proofs.OnNetlist.OnOperators.{part_carries}
 use Rattle.block_build.proofs.OnNetlist.OnLeaves.{leaves-Tuple, unflat_is_cut, total_is, leaves_are_some}
@@ -136,3 +137,8 @@ receive_shows v channels c t s k on zeros b x is widths h e of o z =
     ∙ ap leaves_of (sym (heard_is t b x of.fits))
     ∙ sym (pair_leaves (heard (Some t) (cond b x no_word)))
     ∙ ap (λ u. leaves_of (Tuple (no_value ∷ heard u (cond b x no_word) ∷ []))) (sym is)
+
+-- registers that take what is chosen
+pub registers_carry_on : (v next : Values) (k : ℕ) (moves : Atom) (ws : List ℕ) (source registers : List Atom) → AreWired v k (choice_wires moves ws source registers) → length source ≡ length ws → length registers ≡ length ws
+    → map (atom_value next) registers ≡ map (atom_value v) (nets k (length ws)) → AreCarriedOn v next moves source registers
+registers_carry_on v next k moves ws source registers h l m e t is = e ∙ choice_carries v k moves ws source registers t h is l m

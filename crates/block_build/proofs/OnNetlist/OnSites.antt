@@ -90,7 +90,7 @@ bit_of zero l = refl
 bit_of (suc zero) l = refl
 bit_of (suc (suc n)) l = absurd (omega (arith, l))
 
-on_shown : (v : Values) (on : Atom) (value : Value) → IsOfType (ty.Bits 1) value → ShowsValue v (on ∷ []) value → atom_value v on ≡ bit (is_one (out-Value value))
+pub on_shown : (v : Values) (on : Atom) (value : Value) → IsOfType (ty.Bits 1) value → ShowsValue v (on ∷ []) value → atom_value v on ≡ bit (is_one (out-Value value))
 on_shown v on value t h =
     let g = has_signal v 1 on value t h in
     let range : g.word.value < 2 = subst (λ w. g.word.value < 2 ^ w) g.of.fits g.of.word.in_range in

@@ -1,8 +1,9 @@
 -- What a verifier asks of wires: that each reads smaller numbers alone, and that widths fit.
-use Rattle.std.specs.Prelude.{◌≡◌, ℕ, suc, ◌<◌, true, List, [], ◌∷◌}
+use Rattle.std.specs.Prelude.{◌≡◌, ℕ, suc, ◌<◌, ◌≤◌, ◌^◌, true, List, [], ◌∷◌}
 use Rattle.std.specs.List.{AllByRecursion}
 use Rattle.vlog_tree.specs.declared.expression.Atom.{Atom}
-use Rattle.vlog_tree.specs.Forms.{Widths, atom_width, atom_reads, fits}
+use Rattle.vlog_tree.specs.Forms.{Widths, atom_width, atom_reads, fits, literals}
+use Rattle.vlog_tree.specs.Value.{Values}
 use Rattle.block_build.specs.Netlist.Wires.{Wire, ReadEarlier}
 use Rattle.block_build.specs.Netlist.Handshakes.{SiteNets}
 
@@ -37,3 +38,11 @@ pub record SiteReads (widths : Widths) (n : ℕ) (ready : Atom) (site : SiteNets
   pub done_bit : IsBit widths site.done
   pub partner_below : IsBelow n site.partner
   pub partner_bit : IsBit widths site.partner
+
+-- literals are of at most 128 bits
+abbrev pub HaveSmallLiterals : List Wire → Type 0
+HaveSmallLiterals wires = AllByRecursion (λ (wire : Wire). AllByRecursion (λ w. w ≤ 128) (literals wire.driver)) wires
+
+-- a signal carries a number of its width
+abbrev pub CarriesWord : Widths → Values → ℕ → Type 0
+CarriesWord widths v s = ((v s).width ≡ widths s) × ((v s).value < 2 ^ widths s)

@@ -1,6 +1,6 @@
 //! Laws of what a pipeline's registers hold, from cycle to cycle, each the contract of a function without a body.
 
-ghost use Rattle.std.specs.Prelude.{◌≡◌, ◌≤◌, ◌==◌, ℕ, Bool, true, false, not, is_some, List, length, Some};
+ghost use Rattle.std.specs.Prelude.{◌≡◌, ◌≤◌, ◌==◌, ℕ, suc, slice_get, Bool, true, false, not, is_some, List, map, length, Some};
 ghost use Rattle.xb_bits.specs.Word.{Word};
 ghost use Rattle.net_core.specs.declared.net.Site.{Site};
 ghost use Rattle.net_core.specs.Cuts.{words_sent, count_received};
@@ -10,7 +10,10 @@ ghost use Rattle.xb_value.specs.Typing.{IsOfType};
 ghost use Rattle.ir_tree.specs.declared.ir_type.IrType.{IrType};
 ghost use Rattle.ir_tree.specs.declared.node.Node.{Node};
 ghost use Rattle.ir_tree.specs.Types.{ty_of};
+ghost use Rattle.ir_tree.specs.declared.package.Package.{Package};
+ghost use Rattle.ir_verify.specs.Fitting.{type_in, types_behind};
 ghost use Rattle.ir_verify.specs.Typed.Typed.{HaveTypes};
+ghost use Rattle.ir_verify.specs.Verified.{IsVerified};
 ghost use Rattle.ir_tree.specs.declared.node.Operand.{Operand};
 ghost use Rattle.ir_tree.specs.declared.node.Operand.TheVariants as operand;
 ghost use Rattle.ir_tree.specs.declared.package.Channel.{Channel};
@@ -22,11 +25,15 @@ ghost use Rattle.block_stage.specs.Machine.Cycle.{Ports, Registers, circuit, ope
 ghost use Rattle.block_stage.specs.Machine.Circuits.{cycle_by, asserts_by};
 ghost use Rattle.block_build.specs.Netlist.Ends.{some_wires, some_net, word_wires, word_net, all_sites, end_requests};
 ghost use Rattle.block_build.specs.Netlist.Wires.{AreWired};
+ghost use Rattle.block_build.specs.Block.{Block, IsBlock};
+ghost use Rattle.block_build.specs.Rows.{State, InputRow, HasReset, state_after, is_ready, offers};
+ghost use Rattle.block_build.specs.Netlist.Blocks.{BlockNets, BlockRow, BlockNext, ChannelShown, rows_before};
 ghost use Rattle.block_build.specs.Netlist.Stages.{StageNets, AreStages, AreHeld, ShowStages};
-ghost use Rattle.block_build.specs.Netlist.Leaves.{ShowsValue};
+ghost use Rattle.block_build.specs.Netlist.Leaves.{ShowsValue, nets};
+ghost use Rattle.block_build.specs.Netlist.Choices.{choice_wires};
 ghost use Rattle.block_build.specs.Netlist.Layout.{is_carried, proc_readers};
 ghost use Rattle.block_build.specs.Netlist.Nodes.{IsEarlier, ReadEarlierNodes, HaveOperandTypes, ProcNets};
-ghost use Rattle.block_build.specs.Netlist.Holding.{CarriesOn, AllPortsShown, AreReset, PipelineMade, RegistersGoOn, PipelineHeld};
+ghost use Rattle.block_build.specs.Netlist.Holding.{AreCarriedOn, CarriesOn, HasTypedValues, AllPortsShown, AreReset, PipelineMade, RegistersGoOn, PipelineHeld};
 
 /// Where the registers of a proc's pipeline hold what its machine's do, and its sites find at their ports what the machine
 /// finds, its wires show what the machine does in a cycle without reset, and its registers hold next what the machine's hold.
@@ -46,6 +53,15 @@ pub fn registers_hold_the_machines()
     ensures reset { (v : Values) (channels : List Channel) (proc : Proc) (nets : ProcNets) (stage : Operand → ℕ) (carried : Operand → ℕ → Bool) (q : Pipeline) (stages : List StageNets) →
         AreReset v 0 stages → ShowsValue v (nets.shown 0 operand.State) q.proc.opening → IsOfType (ty_of proc.state) q.proc.opening →
         PipelineHeld v channels proc nets stage carried q stages (opened q) }
+{}
+
+/// Registers that take what the wires of a choice carry go on with what is signalled where a stage moves, else with what they
+/// hold.
+pub fn registers_carry_on()
+    ensures { (v next : Values) (k : ℕ) (moves : Atom) (ws : List ℕ) (source registers : List Atom) → AreWired v k (choice_wires moves ws source registers) →
+        length source ≡ length ws → length registers ≡ length ws →
+        map (atom_value next) registers ≡ map (atom_value v) (nets k (length ws)) →
+        AreCarriedOn v next moves source registers }
 {}
 
 /// So what stands at the ends of its channels is what its machine asserts there in that cycle: whether a word is valid, and
@@ -75,6 +91,17 @@ pub fn ends_show_the_machines()
         AreWired v k (some_wires k zeros requests) → atom_value v zeros ≡ bit false → atom_value v (some_net k zeros requests) ≡ bit false }
 {}
 
+/// A block's netlist in the rows of a run: from the first row behind a reset on, whatever stood in its registers before, it
+/// says of each channel whether its reader is ready for a word, whether its writer has one valid and which, as the block does.
+/// At an input that is what the module drives at the port, as `is_ready`, at an output as `offers`.
+pub fn netlists_drive_what_their_blocks_do()
+    ensures { (block : Block) → IsBlock block → (power : State) (nets : BlockNets) (run : Atom) (row : ℕ → InputRow) (v : ℕ → Values) →
+        ((k : ℕ) → BlockRow (v k) run block nets (row k)) → ((k : ℕ) → BlockNext (v k) (v (suc k)) block nets (row k).rst) →
+        (n : ℕ) → HasReset (rows_before row n) → (c : ℕ) →
+        let state = state_after block power (rows_before row n) in
+        ChannelShown (v n) (nets.ends c) (is_ready block state (row n) c) (offers block state (row n) c) }
+{}
+
 /// The layout serves each stage of a proc with what its nodes read of earlier ones, and the next state where it is read; and
 /// it has copies of the state and of nodes alone.
 pub fn the_layout_serves_procs()
@@ -87,3 +114,15 @@ pub fn operands_have_types()
     ensures { (state : IrType) (nodes : List Node) (s : Value) (values : List Value) → IsOfType (ty_of state) s → HaveTypes nodes values →
         HaveOperandTypes state nodes s values }
 {}
+
+/// Each proc of a verified package is one of which a pipeline's netlist can be made: its nodes read nodes before them alone, its
+/// next state is the state or a node, of the state's type, and whatever words come, all operands have values of their types.
+pub fn verified_procs_can_be_pipelined()
+    ensures earlier { (ir : Package) (p : ℕ) (proc : Proc) → IsVerified ir → slice_get ir.procs p ≡ Some proc → ReadEarlierNodes proc.nodes }
+    ensures next { (ir : Package) (p : ℕ) (proc : Proc) → IsVerified ir → slice_get ir.procs p ≡ Some proc → IsEarlier (length proc.nodes) proc.next }
+    ensures next_type { (ir : Package) (p : ℕ) (proc : Proc) → IsVerified ir → slice_get ir.procs p ≡ Some proc →
+        type_in (types_behind proc.state proc.nodes) proc.next ≡ proc.state }
+    ensures types { (ir : Package) (p : ℕ) (proc : Proc) → IsVerified ir → slice_get ir.procs p ≡ Some proc → HasTypedValues ir.channels proc }
+{
+    ir_verify::typed::nodes_have_types();
+}

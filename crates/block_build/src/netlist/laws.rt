@@ -13,7 +13,7 @@ ghost use Rattle.block_stage.specs.Machine.Cycle.{Ports, Registers, circuit, ste
 ghost use Rattle.block_stage.specs.Machine.Circuits.{stage_by, cycle_by};
 ghost use Rattle.block_build.specs.Netlist.Wires.{Wire, AreWired, ReadEarlier, carried};
 ghost use Rattle.block_build.specs.Netlist.Handshakes.{SiteNets, site_wires, go_net};
-ghost use Rattle.block_build.specs.Netlist.Order.{IsBelow, IsBit, AreSized, AreSound, SiteReads};
+ghost use Rattle.block_build.specs.Netlist.Order.{IsBelow, IsBit, AreSized, WidthsFit, HaveSmallLiterals, CarriesWord, AreSound, SiteReads};
 ghost use Rattle.block_build.specs.Netlist.Walks.{goes_at, AreRead};
 ghost use Rattle.ir_tree.specs.declared.node.Operand.{Operand};
 ghost use Rattle.block_stage.specs.Fifo.Row.{Row, row_after};
@@ -34,6 +34,14 @@ ghost use Rattle.block_build.specs.Netlist.Stages.{StageNets, passed, move_net, 
 pub fn wires_carry_what_drives_them()
     ensures driven { (n : ℕ) (wires : List Wire) (values : Values) → ReadEarlier n wires → AreWired (carried n wires values) n wires }
     ensures only { (n : ℕ) (wires : List Wire) (values : Values) → AreWired values n wires → carried n wires values ≡ values }
+{}
+
+/// Wires that fit, with literals of at most 128 bits, carry numbers of their widths where the ports and registers before them
+/// do.
+pub fn wires_carry_words()
+    ensures { (widths : Widths) (values : Values) (wires : List Wire) (n : ℕ) → AreSized widths n wires → ReadEarlier n wires → WidthsFit widths wires → HaveSmallLiterals wires →
+        ((s : ℕ) → s < n → CarriesWord widths values s) → AreWired values n wires →
+        (s : ℕ) → s < n + length wires → CarriesWord widths values s }
 {}
 
 /// The wires of a pipeline's stages show what the machine does in a cycle without reset, where the registers hold what the

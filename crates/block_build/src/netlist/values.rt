@@ -6,7 +6,7 @@ ghost use Rattle.xb_bits.specs.Word.{Word, word};
 ghost use Rattle.xb_bits.specs.Operations as bits;
 ghost use Rattle.xb_value.specs.declared.ty.Ty.{Ty};
 ghost use Rattle.xb_value.specs.declared.ty.Ty as ty;
-ghost use Rattle.xb_value.specs.declared.value.Value.{Value, Tuple, Array};
+ghost use Rattle.xb_value.specs.declared.value.Value.{Value, out-Value, Tuple, Array};
 ghost use Rattle.xb_value.specs.Flat.{joined};
 ghost use Rattle.xb_value.specs.Typing.{IsOfType};
 ghost use Rattle.xb_value.specs.Width.{width_of, HasWidths};
@@ -28,7 +28,7 @@ ghost use Rattle.ir_tree.specs.declared.package.Channel.{Channel};
 ghost use Rattle.ir_tree.specs.declared.package.Proc.{Proc};
 ghost use Rattle.ir_tree.specs.Activations.{sent};
 ghost use Rattle.ir_tree.specs.Constants.{no_value};
-ghost use Rattle.ir_tree.specs.NodeValues.{operand_value, optional_value, channel_type, received, node_values};
+ghost use Rattle.ir_tree.specs.NodeValues.{operand_value, optional_value, channel_type, is_one, received, node_values};
 ghost use Rattle.ir_tree.specs.Operations.{binary_word, unary_word, holds, bit, shift_word, reduce_word, extend_word, on_word, on_words, on_tuple, of_one, of_two, plain_value, longer_value, slice_value, dyn_slice_value, chosen, element_at, index_value};
 ghost use Rattle.ir_tree.specs.Types.{ty_of};
 ghost use Rattle.vlog_tree.specs.declared.expression.Atom.{Atom};
@@ -158,9 +158,11 @@ pub fn choices_show_values()
         ShowsValue v (all_leaves results) (index_value op.ArrayUpdate i (x ∷ e ∷ [])) }
 {}
 
-/// The wires of a receive show what it gives: a token, and the value in its word where it is on, else 0 in each number.
+/// The wires of a receive show what it gives: a token, and the value in its word where it is on, else 0 in each number. It is
+/// on where its predicate's signal carries 1.
 pub fn receives_show_values()
-    ensures { (v : Values) (channels : List Channel) (c : ℕ) (t : IrType) (s k : ℕ) (on : Atom) (zeros : ℕ → Atom) (b : Bool) (x : Word) →
+    ensures on { (v : Values) (on : Atom) (x : Value) → IsOfType (ty.Bits 1) x → ShowsValue v (on ∷ []) x → atom_value v on ≡ bit (is_one (out-Value x)) }
+    ensures given { (v : Values) (channels : List Channel) (c : ℕ) (t : IrType) (s k : ℕ) (on : Atom) (zeros : ℕ → Atom) (b : Bool) (x : Word) →
         channel_type channels c ≡ Some t → HasWidths (ty_of t) → AreWired v k (receive_wires (width_of (ty_of t)) s on zeros (leaf_widths (ty_of t))) →
         v s ≡ x → IsWordOf (width_of (ty_of t)) x → atom_value v on ≡ bit b → ((w : ℕ) → atom_value v (zeros w) ≡ word w 0) →
         ShowsValue v (nets k (length (leaf_widths (ty_of t)))) (received channels c b x) }
