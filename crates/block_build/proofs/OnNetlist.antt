@@ -60,3 +60,5 @@ pub mod OnRuns
 pub mod OnRanges
 -- procs of verified packages
 pub mod OnVerified
+-- modules and their registers
+pub mod OnSets

@@ -2,3 +2,4 @@
 pub mod holding;
 pub mod laws;
 pub mod values;
+pub mod wires;

@@ -1,11 +1,11 @@
 -- The copies of a layout serve all stages, and none of them can be spared.
-use Rattle.std.proofs.Common.{◌≡◌, ℕ, zero, suc, ◌+◌, ◌-◌, ◌<◌, ◌≤◌, max, List, [], ◌∷◌, refl, sym, ap, ◌∙◌, subst, arith, cond, true, false, Bool, Some}
+use Rattle.std.proofs.Common.{◌≡◌, ℕ, zero, suc, ◌+◌, ◌-◌, ◌<◌, ◌≤◌, max, min, List, [], ◌∷◌, refl, sym, ap, ◌∙◌, subst, arith, cond, true, false, Bool, Some}
 use Rattle.std.specs.Prelude.{◌⊎◌, ◌&&◌, slice_get, nat_lt, nat_le}
 use Rattle.std.proofs.Common.{inl, inr}
 use Rattle.std.proofs.lemmas.Bool.{cases_lt}
 use Rattle.std.proofs.lemmas.Bool.Decides.{nat_tests}
 use Rattle.ir_tree.specs.declared.node.Operand.{Operand}
-use Rattle.block_build.specs.Netlist.Layout.{StageReader, reads_operand, last_read, is_carried, ServesAll}
+use Rattle.block_build.specs.Netlist.Layout.{StageReader, reads_operand, last_read, is_carried, count_copies, ServesAll}
 
 lt_true : (a b : ℕ) → a < b → nat_lt a b ≡ true
 lt_true a b h = grind (arith, nat_tests)
@@ -104,3 +104,37 @@ the_layout_is_least stage readers carried serves o j c =
     let at = r.last in
     down stage readers carried serves o (r.reader.stage - j) j r.reader.stage (omega (arith, h, at)) l
     (serves.read r.index r.reader o r.here r.reads (omega (arith, l, h, at)))
+
+-- how many copies there are of a value
+carried_not : (stage : Operand → ℕ) (readers : List StageReader) (o : Operand) (j : ℕ) → ((stage o < j → j ≤ last_read readers o → ⊥)) → is_carried stage readers o j ≡ false
+carried_not stage readers o j h = go (nat_lt (stage o) j) (nat_le j (last_read readers o)) refl refl
+  where
+    go : (s t : Bool) → nat_lt (stage o) j ≡ s → nat_le j (last_read readers o) ≡ t → (s && t) ≡ false
+    go true true e f = absurd (h (true_lt (stage o) j e) (true_le j (last_read readers o) f))
+    go true false e f = refl
+    go false t e f = refl
+
+copies_below : (stage : Operand → ℕ) (readers : List StageReader) (o : Operand) (j : ℕ) → count_copies (is_carried stage readers) o (suc j) ≡ min j (last_read readers o) - stage o
+copies_below stage readers o zero =
+    let none = carried_not stage readers o 0 (λ l m. omega (arith, l)) in
+    rw none (omega arith)
+copies_below stage readers o (suc j) = go (cases_lt (stage o) (suc j)) (cases_lt (last_read readers o) (suc j)) (copies_below stage readers o j)
+  where
+    go : (stage o < suc j) ⊎ (suc j ≤ stage o) → (last_read readers o < suc j) ⊎ (suc j ≤ last_read readers o)
+        → count_copies (is_carried stage readers) o (suc j) ≡ min j (last_read readers o) - stage o
+        → count_copies (is_carried stage readers) o (suc (suc j)) ≡ min (suc j) (last_read readers o) - stage o
+    go (inl a) (inr b) ih =
+        let one = carried_is stage readers o (suc j) a b in
+        ap (λ t. cond t (suc (count_copies (is_carried stage readers) o (suc j))) (count_copies (is_carried stage readers) o (suc j))) one ∙ (omega (arith, ih, a, b))
+    go (inl a) (inl b) ih =
+        let none = carried_not stage readers o (suc j) (λ l m. omega (arith, m, b)) in
+        ap (λ t. cond t (suc (count_copies (is_carried stage readers) o (suc j))) (count_copies (is_carried stage readers) o (suc j))) none ∙ (omega (arith, ih, a, b))
+    go (inr a) x ih =
+        let none = carried_not stage readers o (suc j) (λ l m. omega (arith, l, a)) in
+        ap (λ t. cond t (suc (count_copies (is_carried stage readers) o (suc j))) (count_copies (is_carried stage readers) o (suc j))) none ∙ (omega (arith, ih, a))
+
+pub copies_are_counted : (stage : Operand → ℕ) (readers : List StageReader) (o : Operand) (stages : ℕ) → last_read readers o < stages → count_copies (is_carried stage readers) o stages ≡ last_read readers o - stage o
+copies_are_counted stage readers o zero l = absurd (omega (arith, l))
+copies_are_counted stage readers o (suc j) l =
+    let most : min j (last_read readers o) ≡ last_read readers o = omega (arith, l) in
+    copies_below stage readers o j ∙ ap (λ k. k - stage o) most

@@ -1,5 +1,5 @@
 -- What a block's netlist drives in the rows of a run.
-use Rattle.std.proofs.Common.{◌≡◌, ℕ, zero, suc, List, [], ◌∷◌, ◌++◌, refl, sym, ap, ◌∙◌, subst, arith, cond, true, false, Bool, Option, Some, None, inl, inr}
+use Rattle.std.proofs.Common.{◌≡◌, ℕ, zero, suc, ◌<◌, ◌≤◌, List, [], ◌∷◌, ◌++◌, refl, sym, ap, ◌∙◌, subst, arith, cond, true, false, Bool, Option, Some, None, inl, inr}
 use Rattle.std.specs.Prelude.{slice_get, is_some, not, ◌||◌, ◌⊎◌, option_map}
 use Rattle.std.specs.List.{list_any}
 use Rattle.std.proofs.lemmas.Option.{slice_get-map}
@@ -95,14 +95,14 @@ held_next block is nets run row v next state h go before = by row.rst refl h.run
           held = blocks_hold_on v next block nets state b.past row.ports run h.made r b.held b.stands h.ports go;
         }
 
-held_before : (block : Block) → IsBlock block → (power : State) (nets : BlockNets) (run : Atom) (row : ℕ → InputRow) (v : ℕ → Values) → ((k : ℕ) → BlockRow (v k) run block nets (row k)) → ((k : ℕ) → BlockNext (v k) (v (suc k)) block nets (row k).rst)
-    → (n : ℕ) → HasReset (rows_before row n) → Held (v n) block nets (state_after block power (rows_before row n))
-held_before block is power nets run row v rows go zero h = absurd (cc)
-held_before block is power nets run row v rows go (suc n) h =
+held_before : (block : Block) → IsBlock block → (power : State) (nets : BlockNets) (run : Atom) (row : ℕ → InputRow) (v : ℕ → Values) (bound : ℕ) → ((k : ℕ) → k < bound → BlockRow (v k) run block nets (row k))
+    → ((k : ℕ) → k < bound → BlockNext (v k) (v (suc k)) block nets (row k).rst) → (n : ℕ) → n ≤ bound → HasReset (rows_before row n) → Held (v n) block nets (state_after block power (rows_before row n))
+held_before block is power nets run row v bound rows go zero l h = absurd (cc)
+held_before block is power nets run row v bound rows go (suc n) l h =
     let any = sym (list_any-append (λ (r : InputRow). r.rst) (rows_before row n) (row n ∷ [])) ∙ h in
     subst (Held (v (suc n)) block nets) (sym (state_append block power (rows_before row n) (row n)))
-    (held_next block is nets run (row n) (v n) (v (suc n)) (state_after block power (rows_before row n)) (rows n) (go n)
-    (λ e. held_before block is power nets run row v rows go n (or_earlier (list_any (λ (r : InputRow). r.rst) (rows_before row n)) (row n).rst any e)))
+    (held_next block is nets run (row n) (v n) (v (suc n)) (state_after block power (rows_before row n)) (rows n (omega (arith, l))) (go n (omega (arith, l)))
+    (λ e. held_before block is power nets run row v bound rows go n (omega (arith, l)) (or_earlier (list_any (λ (r : InputRow). r.rst) (rows_before row n)) (row n).rst any e)))
 
 row_shown : (block : Block) (nets : BlockNets) (run : Atom) (row : InputRow) (v : Values) (state : State) → BlockRow v run block nets row → Held v block nets state → (c : ℕ) → ChannelShown v (nets.ends c) (is_ready block state row c) (offers block state row c)
 row_shown block nets run row v state h held c = by (cases row.rst)
@@ -118,8 +118,9 @@ row_shown block nets run row v state h held c = by (cases row.rst)
           word = λ w is. shown.word w (sym offer ∙ is);
         }
 
-pub netlists_drive_what_blocks_do : (block : Block) → IsBlock block → (power : State) (nets : BlockNets) (run : Atom) (row : ℕ → InputRow) (v : ℕ → Values) → ((k : ℕ) → BlockRow (v k) run block nets (row k))
-    → ((k : ℕ) → BlockNext (v k) (v (suc k)) block nets (row k).rst) → (n : ℕ) → HasReset (rows_before row n) → (c : ℕ)
+pub netlists_drive_what_blocks_do : (block : Block) → IsBlock block → (power : State) (nets : BlockNets) (run : Atom) (row : ℕ → InputRow) (v : ℕ → Values) (n : ℕ) → ((k : ℕ) → k ≤ n → BlockRow (v k) run block nets (row k))
+    → ((k : ℕ) → k < n → BlockNext (v k) (v (suc k)) block nets (row k).rst) → HasReset (rows_before row n) → (c : ℕ)
     → let state = state_after block power (rows_before row n) in ChannelShown (v n) (nets.ends c) (is_ready block state (row n) c) (offers block state (row n) c)
-netlists_drive_what_blocks_do block is power nets run row v rows go n h c =
-    row_shown block nets run (row n) (v n) (state_after block power (rows_before row n)) (rows n) (held_before block is power nets run row v rows go n h) c
+netlists_drive_what_blocks_do block is power nets run row v n rows go h c =
+    row_shown block nets run (row n) (v n) (state_after block power (rows_before row n)) (rows n (omega arith))
+    (held_before block is power nets run row v n (λ k l. rows k (omega (arith, l))) go n (omega arith) h) c

@@ -1,5 +1,5 @@
 -- What wires carry.
-use Rattle.std.proofs.Common.{◌≡◌, ℕ, suc, ◌<◌, ◌≤◌, List, [], ◌∷◌, refl, sym, ap, ◌∙◌, subst, arith, true, false, eqb}
+use Rattle.std.proofs.Common.{◌≡◌, ℕ, suc, ◌+◌, ◌<◌, ◌≤◌, List, [], ◌∷◌, ◌++◌, length, refl, sym, ap, ◌∙◌, subst, arith, true, false, eqb}
 use Rattle.std.specs.Prelude.{◌⊎◌}
 use Rattle.std.proofs.Common.{inl, inr}
 use Rattle.std.proofs.lemmas.Bool.{cases_lt}
@@ -64,3 +64,11 @@ carried_values_are_driven n (wire ∷ wires) values order =
     each_other (λ s. s < n) (λ s. values s ≡ carried (suc n) wires next s)
     (λ s l. sym (carried_below (suc n) wires next s (omega arith) ∙ kept n s w values (λ e. omega arith))) (reads wire.driver) order.0 in
     (here ∙ expr_same values (carried (suc n) wires next) wire.driver reads_same, carried_values_are_driven (suc n) wires next order.1)
+
+-- one wire more
+pub wired_with_one_more : (v : Values) (n : ℕ) (wires : List Wire) (wire : Wire) → AreDriven v (assigned n (wires ++ wire ∷ [])) → AreDriven v (assigned n wires) × (v (n + length wires) ≡ expr_value v wire.driver)
+wired_with_one_more v n [] wire h = let at : n + 0 ≡ n = omega arith in (tt, ap v at ∙ h.0)
+wired_with_one_more v n (x ∷ wires) wire h =
+    let at : n + suc (length wires) ≡ suc n + length wires = omega arith in
+    let rest = wired_with_one_more v (suc n) wires wire h.1 in
+    ((h.0, rest.0), ap v at ∙ rest.1)

@@ -1,6 +1,6 @@
 -- Which values a pipeline's registers carry from stage to stage: of what a node gives, one copy for each stage behind its own up
 -- to the last that reads it. The state that an activation began with stands in stage 0 and is carried on like any other.
-use Rattle.std.specs.Prelude.{◌≡◌, ℕ, suc, ◌<◌, Bool, true, false, ◌&&◌, max, List, [], ◌∷◌, slice_get, nat_lt, nat_le, if◌then◌else◌, ◌==◌, Some}
+use Rattle.std.specs.Prelude.{◌≡◌, ℕ, zero, suc, ◌<◌, Bool, true, false, ◌&&◌, max, List, [], ◌∷◌, slice_get, nat_lt, nat_le, if◌then◌else◌, ◌==◌, Some}
 use Rattle.std.specs.List.{list_any}
 use Rattle.ir_tree.specs.declared.node.Operand.{Operand}
 use Rattle.ir_tree.specs.declared.node.Operand.TheVariants as operand
@@ -31,6 +31,11 @@ last_read (reader ∷ readers) o = if reads_operand o reader then max reader.sta
 -- a copy of it stands in stage j
 abbrev pub is_carried : (Operand → ℕ) → List StageReader → Operand → ℕ → Bool
 is_carried stage readers o j = nat_lt (stage o) j && nat_le j (last_read readers o)
+
+-- in how many of so many stages a copy of it stands
+abbrev pub count_copies : (Operand → ℕ → Bool) → Operand → ℕ → ℕ
+count_copies carried o zero = 0
+count_copies carried o (suc j) = if carried o j then suc (count_copies carried o j) else count_copies carried o j
 
 -- copies from which each stage can be served: what is read of an earlier stage stands there, and a copy comes of the copy in the
 -- stage before, if that isn't where the value is made

@@ -4,16 +4,15 @@
 use Rattle.std.specs.Prelude.{ℕ, suc, ◌<◌, List, [], ◌∷◌, ◌==◌, if◌then◌else◌}
 use Rattle.std.specs.List.{AllByRecursion}
 use Rattle.xb_bits.specs.Word.{Word}
-use Rattle.vlog_tree.specs.declared.expression.Expr.{Expr}
+use Rattle.block_build.specs.declared.netlist.wires.Wire as declared
 use Rattle.vlog_tree.specs.declared.module.Assignment.{Assignment}
 use Rattle.vlog_tree.specs.Value.{Values, expr_value}
 use Rattle.vlog_tree.specs.Forms.{reads}
 use Rattle.vlog_tree.specs.Meaning.{AreDriven}
 
 -- a wire: how many bits it has, and what drives it. Its name is its number
-pub record Wire : Type 0 where
-  pub width : ℕ
-  pub driver : Expr
+abbrev pub Wire : Type 0
+Wire = declared.Wire
 
 -- wires with the numbers from n on, as assignments of a module
 abbrev pub assigned : ℕ → List Wire → List Assignment

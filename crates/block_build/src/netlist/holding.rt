@@ -1,6 +1,6 @@
 //! Laws of what a pipeline's registers hold, from cycle to cycle, each the contract of a function without a body.
 
-ghost use Rattle.std.specs.Prelude.{◌≡◌, ◌≤◌, ◌==◌, ℕ, suc, slice_get, Bool, true, false, not, is_some, List, map, length, Some};
+ghost use Rattle.std.specs.Prelude.{◌≡◌, ◌<◌, ◌≤◌, ◌==◌, ℕ, suc, slice_get, Bool, true, false, not, is_some, List, map, length, Some};
 ghost use Rattle.xb_bits.specs.Word.{Word};
 ghost use Rattle.net_core.specs.declared.net.Site.{Site};
 ghost use Rattle.net_core.specs.Cuts.{words_sent, count_received};
@@ -95,9 +95,9 @@ pub fn ends_show_the_machines()
 /// says of each channel whether its reader is ready for a word, whether its writer has one valid and which, as the block does.
 /// At an input that is what the module drives at the port, as `is_ready`, at an output as `offers`.
 pub fn netlists_drive_what_their_blocks_do()
-    ensures { (block : Block) → IsBlock block → (power : State) (nets : BlockNets) (run : Atom) (row : ℕ → InputRow) (v : ℕ → Values) →
-        ((k : ℕ) → BlockRow (v k) run block nets (row k)) → ((k : ℕ) → BlockNext (v k) (v (suc k)) block nets (row k).rst) →
-        (n : ℕ) → HasReset (rows_before row n) → (c : ℕ) →
+    ensures { (block : Block) → IsBlock block → (power : State) (nets : BlockNets) (run : Atom) (row : ℕ → InputRow) (v : ℕ → Values) (n : ℕ) →
+        ((k : ℕ) → k ≤ n → BlockRow (v k) run block nets (row k)) → ((k : ℕ) → k < n → BlockNext (v k) (v (suc k)) block nets (row k).rst) →
+        HasReset (rows_before row n) → (c : ℕ) →
         let state = state_after block power (rows_before row n) in
         ChannelShown (v n) (nets.ends c) (is_ready block state (row n) c) (offers block state (row n) c) }
 {}

@@ -1,17 +1,21 @@
 //! Laws of netlists, each the contract of a function without a body.
 
-ghost use Rattle.std.specs.Prelude.{◌≡◌, ◌<◌, ◌≤◌, ◌+◌, ℕ, suc, Bool, true, false, List, length, slice_get, Option, Some, None};
+ghost use Rattle.std.specs.Prelude.{◌≡◌, ◌<◌, ◌≤◌, ◌+◌, ◌-◌, ◌++◌, ℕ, suc, Bool, true, false, List, length, slice_get, Option, Some, None};
 ghost use Rattle.xb_bits.specs.Word.{Word};
 ghost use Rattle.xb_value.specs.declared.value.Value.{Value};
 ghost use Rattle.net_core.specs.declared.net.Site.{Site};
 ghost use Rattle.net_core.specs.Behavior.{Behavior, Turn, Receive, chan_at};
 ghost use Rattle.vlog_tree.specs.declared.expression.Atom.{Atom};
 ghost use Rattle.vlog_tree.specs.Forms.{Widths};
+ghost use Rattle.vlog_tree.specs.declared.module.Assignment.{Assignment};
+ghost use Rattle.vlog_tree.specs.declared.module.Set.{Set};
+ghost use Rattle.vlog_tree.specs.declared.module.VModule.{VModule};
+ghost use Rattle.vlog_tree.specs.Meaning.{IsNow, taken_by};
 ghost use Rattle.vlog_tree.specs.Value.{Values, bit, atom_value};
 ghost use Rattle.block_stage.specs.Machine.Pipeline.{Pipeline, IsPipeline, first};
 ghost use Rattle.block_stage.specs.Machine.Cycle.{Ports, Registers, circuit, step_of, brought, walk_by};
 ghost use Rattle.block_stage.specs.Machine.Circuits.{stage_by, cycle_by};
-ghost use Rattle.block_build.specs.Netlist.Wires.{Wire, AreWired, ReadEarlier, carried};
+ghost use Rattle.block_build.specs.Netlist.Wires.{Wire, AreWired, ReadEarlier, assigned, carried};
 ghost use Rattle.block_build.specs.Netlist.Handshakes.{SiteNets, site_wires, go_net};
 ghost use Rattle.block_build.specs.Netlist.Order.{IsBelow, IsBit, AreSized, WidthsFit, HaveSmallLiterals, CarriesWord, AreSound, SiteReads};
 ghost use Rattle.block_build.specs.Netlist.Walks.{goes_at, AreRead};
@@ -19,7 +23,7 @@ ghost use Rattle.ir_tree.specs.declared.node.Operand.{Operand};
 ghost use Rattle.block_stage.specs.Fifo.Row.{Row, row_after};
 ghost use Rattle.block_build.specs.Netlist.Fifos.{FifoNets, IsFifo, FifoHeld, CountShown, slot_net};
 ghost use Rattle.block_build.specs.Netlist.Ends.{RequestNets, RequestValues, RequestsAre, some_wires, some_net, some_asserted, word_wires, word_net, asserted_word};
-ghost use Rattle.block_build.specs.Netlist.Layout.{StageReader, is_carried, ServesAll};
+ghost use Rattle.block_build.specs.Netlist.Layout.{StageReader, last_read, is_carried, count_copies, ServesAll};
 ghost use Rattle.ir_tree.specs.declared.package.Channel.{Channel};
 ghost use Rattle.ir_tree.specs.declared.package.Proc.{Proc};
 ghost use Rattle.ir_tree.specs.Activations.{activation};
@@ -34,6 +38,18 @@ ghost use Rattle.block_build.specs.Netlist.Stages.{StageNets, passed, move_net, 
 pub fn wires_carry_what_drives_them()
     ensures driven { (n : ℕ) (wires : List Wire) (values : Values) → ReadEarlier n wires → AreWired (carried n wires values) n wires }
     ensures only { (n : ℕ) (wires : List Wire) (values : Values) → AreWired values n wires → carried n wires values ≡ values }
+{}
+
+/// In a module whose assignments begin with a netlist's wires these carry what drives them in every cycle; and each register
+/// takes the value of its last set, or keeps what it holds where it has none.
+pub fn modules_carry_their_netlists()
+    ensures wires { (m : VModule) (n : ℕ) (wires : List Wire) (outputs : List Assignment) (held given values : Values) → m.assignments ≡ assigned n wires ++ outputs →
+        IsNow m held given values → AreWired values n wires }
+    ensures taken { (sets : List Set) (values held : Values) (i : ℕ) (set : Set) → slice_get sets i ≡ Some set →
+        ((k : ℕ) (other : Set) → i < k → slice_get sets k ≡ Some other → other.target.0 ≡ set.target.0 → ⊥) →
+        taken_by sets values held set.target.0 ≡ atom_value values set.value }
+    ensures kept { (sets : List Set) (values held : Values) (r : ℕ) → ((k : ℕ) (other : Set) → slice_get sets k ≡ Some other → other.target.0 ≡ r → ⊥) →
+        taken_by sets values held r ≡ held r }
 {}
 
 /// Wires that fit, with literals of at most 128 bits, carry numbers of their widths where the ports and registers before them
@@ -135,11 +151,13 @@ pub fn stages_go_by_the_words_on_their_signals()
 {}
 
 /// The copies of values that stages carry on serve each stage with what it reads of earlier ones; and whatever does so has them
-/// all.
+/// all. Of each value there is one copy for each stage behind its own up to the last that reads it.
 pub fn the_layout_is_the_least_that_serves_all()
     ensures serves { (stage : Operand → ℕ) (readers : List StageReader) → ServesAll stage readers (is_carried stage readers) }
     ensures least { (stage : Operand → ℕ) (readers : List StageReader) (carried_over : Operand → ℕ → Bool) → ServesAll stage readers carried_over →
         (o : Operand) (j : ℕ) → is_carried stage readers o j ≡ true → carried_over o j ≡ true }
+    ensures count { (stage : Operand → ℕ) (readers : List StageReader) (o : Operand) (stages : ℕ) → last_read readers o < stages →
+        count_copies (is_carried stage readers) o stages ≡ last_read readers o - stage o }
 {}
 
 /// The wires of a FIFO are its row's: whether a word is there, whether there is room, and what the count and the slots hold
