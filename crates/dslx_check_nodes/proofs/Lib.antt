@@ -1,0 +1,2 @@
+-- what is settled
+pub mod Settled

@@ -1,0 +1,11 @@
+use Rattle.std.proofs.Common.{[], Some, refl, ap}
+use Rattle.dslx_meaning.specs.declared.ty.DslxType as ty
+use Rattle.dslx_meaning.specs.Rules.ConstantRules.{count_faults}
+use Rattle.dslx_check_nodes.proofs.written.bits_type.Goals as goal
+
+pub returns-clause-typed : goal.returns-clause-typed
+returns-clause-typed c = record {
+  typed = λ names later distinct p.
+      c.settle.ensures.typed names later p c.in_ok-ty.ensures.there (Some (ty.Bits c.args.signed c.args.width)) (count_faults c.args.span (Some c.args.width)) [] (Some 0)
+      (ap Some (c.in_ok-ty.ensures.is names later p)) c.zero_faults-faults.ensures refl;
+}

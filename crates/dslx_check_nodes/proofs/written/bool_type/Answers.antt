@@ -1,0 +1,9 @@
+use Rattle.std.proofs.Common.{[], Some, false, refl, ap}
+use Rattle.dslx_meaning.specs.declared.ty.DslxType as ty
+use Rattle.dslx_check_nodes.proofs.written.bool_type.Goals as goal
+
+pub returns-clause-typed : goal.returns-clause-typed
+returns-clause-typed c = record {
+  typed = λ names later distinct p.
+      c.settle.ensures.typed names later p c.in_ok-ty.ensures.there (Some (ty.Bits false 1)) [] [] (Some 0) (ap Some (c.in_ok-ty.ensures.is names later p)) c.none.ensures refl;
+}
