@@ -3,7 +3,7 @@
 
 usage: const_vectors.py [--write]
 
-Each row of crates/dslx_const_samples/src/generated/vectors.rt is a text whose last item is a constant that is to be true: an
+Each row of crates/dslx_tests/src/constants/generated/vectors.rt is a text whose last item is a constant that is to be true: an
 expression, made at random of the constructs below, is to equal the number that is worked here. Numbers are kept as what they
 are, negative ones too, and not as words: a value is brought into its type's range where one is made. It fails where the file
 has other rows; with --write it writes them.
@@ -11,7 +11,7 @@ has other rows; with --write it writes them.
 import os
 import sys
 
-FILE = os.path.join(os.path.dirname(os.path.abspath(__file__)), '..', 'crates', 'dslx_const_samples', 'src', 'generated', 'vectors.rt')
+FILE = os.path.join(os.path.dirname(os.path.abspath(__file__)), '..', 'crates', 'dslx_tests', 'src', 'constants', 'generated', 'vectors.rt')
 ROWS = 8
 WIDTHS = (1, 2, 3, 7, 8, 9, 31, 32, 33, 63, 64, 65, 127, 128)
 HEAD = ('fn more<N: u32>(x: uN[N]) -> uN[N] { x + uN[N]:1 } fn wider<N: u32, M: u32 = {N + u32:1}>(x: uN[N]) -> uN[M] { (x as uN[M]) + (x as uN[M]) } '

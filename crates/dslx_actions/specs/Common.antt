@@ -1,8 +1,9 @@
 -- What rules of several sorts make of the parts that their symbols left.
 use Rattle.std.specs.Prelude.{ℕ, suc, List, [], ◌∷◌, ◌-◌, drop, None, Some}
 use Rattle.xb_span.specs.declared.span.Span.{Span}
+use Rattle.xb_span.specs.Spans.{nowhere}
 use Rattle.dslx_actions.specs.declared.parts.SemanticStacks.{SemanticStacks}
-use Rattle.dslx_actions.specs.Empty.{join, no_expr, no_type, nowhere}
+use Rattle.dslx_actions.specs.Empty.{join, no_expr, no_type}
 use Rattle.base.specs.Stacks.Tops.{top_or}
 
 -- the span of the last so many tokens

@@ -1,6 +1,7 @@
 -- Nothing built, and what stands for a part that isn't there, as never happens by the grammar.
 use Rattle.std.specs.Prelude.{false, List, [], None}
 use Rattle.xb_span.specs.declared.span.Span.{Span}
+use Rattle.xb_span.specs.Spans.{nowhere}
 use Rattle.dslx_tree.specs.declared.block.Block.{Block, roll-Block}
 use Rattle.dslx_tree.specs.declared.expr.Arg.{Arg, roll-Arg}
 use Rattle.dslx_tree.specs.declared.expr.Expr.{Expr, roll-Expr}
@@ -16,9 +17,6 @@ use Rattle.dslx_tree.specs.declared.type_expr.TypeExpr.{TypeExpr, roll-TypeExpr}
 use Rattle.dslx_tree.specs.declared.type_expr.TypeNode as types
 use Rattle.dslx_actions.specs.declared.parts.Digits.{Digits}
 use Rattle.dslx_actions.specs.declared.parts.SemanticStacks.{SemanticStacks}
-
-abbrev pub nowhere : Span
-nowhere = record { from = 0; to = 0 }
 
 abbrev pub no_digits : Digits
 no_digits = record { span = nowhere; is_negative = false; value = 0 }

@@ -2,6 +2,7 @@
 use Rattle.std.specs.Prelude.{[], None}
 use Rattle.std.proofs.Common.{lit≤}
 use Rattle.xb_span.specs.declared.span.Span.{Span}
+use Rattle.xb_span.specs.Spans.{nowhere}
 use Rattle.dslx_narrow_tree.specs.declared.expr.Expr.{Expr}
 use Rattle.dslx_narrow_tree.specs.declared.expr.Expr.TheVariants as exprs
 use Rattle.dslx_narrow_tree.specs.declared.ident.Ident.{Ident}
@@ -16,9 +17,6 @@ use Rattle.dslx_narrow_tree.specs.declared.type_expr.TypeExpr.{TypeExpr}
 use Rattle.dslx_narrow_tree.specs.declared.type_expr.TypeExpr.TheVariants as types
 use Rattle.dslx_narrow_tree.specs.declared.width.Width.{Width}
 use Rattle.dslx_narrow_parser.specs.declared.state.State.{State}
-
-abbrev pub nowhere : Span
-nowhere = record { from = 0; to = 0 }
 
 abbrev pub no_expr : Expr
 no_expr = exprs.Unit nowhere

@@ -1,6 +1,7 @@
 -- What each rule of the grammar makes of the parts that its symbols left on the stacks.
 use Rattle.std.specs.Prelude.{List, ◌∷◌, ◌+◌, min, drop, take, reverse, None, Some}
 use Rattle.xb_span.specs.declared.span.Span.{Span}
+use Rattle.xb_span.specs.Spans.{nowhere}
 use Rattle.dslx_narrow_tree.specs.declared.expr.Expr.{Expr}
 use Rattle.dslx_narrow_tree.specs.declared.expr.Expr.TheVariants as exprs
 use Rattle.dslx_narrow_tree.specs.declared.pattern.Pattern.{Pattern}
@@ -9,7 +10,7 @@ use Rattle.dslx_narrow_tree.specs.declared.proc.Direction.TheVariants as directi
 use Rattle.dslx_narrow_tree.specs.declared.proc.Stmt.TheVariants as stmts
 use Rattle.dslx_narrow_tree.specs.declared.type_expr.TypeExpr.TheVariants as types
 use Rattle.dslx_narrow_parser.specs.declared.state.State.{State}
-use Rattle.dslx_narrow_parser.specs.Empty.{nowhere, no_block, no_config, no_expr, no_ident, no_next, no_pattern, no_type, no_width, join}
+use Rattle.dslx_narrow_parser.specs.Empty.{no_block, no_config, no_expr, no_ident, no_next, no_pattern, no_type, no_width, join}
 use Rattle.base.specs.Stacks.Tops.{top_or}
 
 -- the place of the mark, or of the expression, with none and with one on top of it

@@ -1,5 +1,6 @@
 -- How a package is built: each token adds itself, and each complete tree of a rule makes one of the parts of its symbols.
 use Rattle.std.specs.Prelude.{ℕ, List, [], ◌∷◌, reverse, slice_index_or}
+use Rattle.xb_span.specs.Spans.{nowhere}
 use Rattle.grammar.specs.declared.bottom_up.Step.{Step}
 use Rattle.grammar.specs.declared.bottom_up.Step.TheVariants.{Shift, Reduce}
 use Rattle.dslx_token.specs.Lexeme.{Lexeme}
@@ -11,7 +12,6 @@ use Rattle.ir_builder.specs.declared.rule.Rule.{Rule}
 use Rattle.ir_builder.specs.declared.rule.Rule.TheVariants.{Keep, Skip, Start, More, Name, Number, BitsElement, TokenElement, TupleElement, TypeOf, NumberValue, TupleValue, ArrayValue, StateOperand, NodeOperand, SomeOperand, NoOperand, PlainCall, SliceCall, DynamicCall, ExtendCall, SelCall, IndexCall, IndicesCall, LiteralCall, SiteChannel, SiteCall, ChannelId, Input, Output, Inner, ChannelOf, HeadOf, NodeOf, NextOf, ProcOf, PackageLine}
 use Rattle.ir_builder.specs.declared.rule.TheConstants.{RULES}
 use Rattle.ir_builder.specs.declared.state.State.{State}
-use Rattle.ir_builder.specs.Empty.{nowhere}
 use Rattle.base.specs.Stacks.Tops.{top_or}
 use Rattle.ir_builder.specs.Rules as rules
 

@@ -9,9 +9,6 @@ use Rattle.ir_token.specs.Tokens.{ir_lexeme_at}
 use Rattle.ir_builder.specs.declared.state.Call.{Call}
 use Rattle.ir_builder.specs.declared.state.State.{State}
 
-abbrev pub nowhere : Span
-nowhere = record { from = 0; to = 0 }
-
 -- the mark at the end of an empty text
 abbrev pub no_token : Lexeme
 no_token = ir_lexeme_at 0 []

@@ -1,6 +1,7 @@
 -- What each rule of the grammar makes of the parts that its symbols left on the stacks.
 use Rattle.std.specs.Prelude.{ℕ, List, [], ◌∷◌, ◌+◌, min, drop, take, reverse, Option, None, Some}
 use Rattle.xb_span.specs.declared.span.Span.{Span}
+use Rattle.xb_span.specs.Spans.{nowhere}
 use Rattle.delay_model.specs.Names.{op_named}
 use Rattle.delay_model.specs.declared.op.Op.{Op}
 use Rattle.delay_model.specs.declared.op.Op.TheVariants.{AfterAll}
@@ -21,7 +22,7 @@ use Rattle.ir_tree.specs.declared.package.Proc.{Proc}
 use Rattle.ir_verify.specs.declared.line_spans.ProcSpans.{ProcSpans}
 use Rattle.ir_builder.specs.declared.state.Call.{Call}
 use Rattle.ir_builder.specs.declared.state.State.{State}
-use Rattle.ir_builder.specs.Empty.{nowhere, no_token, no_type, no_constant, no_call, join}
+use Rattle.ir_builder.specs.Empty.{no_token, no_type, no_constant, no_call, join}
 use Rattle.ir_builder.specs.Named.{index_in, numbered}
 use Rattle.base.specs.Stacks.Tops.{top_or}
 

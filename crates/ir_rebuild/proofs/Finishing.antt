@@ -7,6 +7,7 @@ use Rattle.xb_value.specs.declared.value.Value.{Value}
 use Rattle.xb_value.specs.Typing.{IsOfType}
 use Rattle.xb_span.specs.declared.fault.Fault.TheVariants.{Passed}
 use Rattle.xb_span.specs.declared.limit.What.TheVariants as what
+use Rattle.xb_span.specs.Spans.{nowhere}
 use Rattle.net_core.specs.Behavior.{Skip}
 use Rattle.ir_tree.specs.declared.node.Operand.{Operand}
 use Rattle.ir_tree.specs.declared.node.Operand.TheVariants as operand
@@ -21,7 +22,7 @@ use Rattle.ir_verify.specs.Checks.{Check}
 use Rattle.ir_verify.specs.Fitting.{type_in, types_behind}
 use Rattle.ir_tree.specs.NodeTypes.Types.{same_type, marks_of}
 use Rattle.ir_verify.specs.Lines.{Seen, is_there, is_proc_named, is_state, is_value_of, head_checks, next_checks}
-use Rattle.ir_verify.specs.Verified.{nowhere, nodes_checks, seen_after, at_start, count_check}
+use Rattle.ir_verify.specs.Verified.{nodes_checks, seen_after, at_start, count_check}
 use Rattle.ir_verify.specs.Typed.Typed.{none_broken}
 use Rattle.std.specs.List.{list_all}
 use Rattle.ir_rebuild.specs.Operands.{operands_in}

@@ -4,6 +4,7 @@ use Rattle.std.specs.Prelude.{slice_get, not, ◌||◌}
 use Rattle.std.proofs.lemmas.List.{append-nil, append_assoc}
 use Rattle.std.proofs.lemmas.List.Folds.{list_all-append}
 use Rattle.xb_span.specs.declared.fault.Fault.{Fault}
+use Rattle.xb_span.specs.Spans.{nowhere}
 use Rattle.delay_model.specs.declared.op.Op.{Op}
 use Rattle.delay_model.specs.declared.op.Op.TheVariants as op
 use Rattle.delay_model.specs.Signatures.{is_met, count_of}
@@ -18,7 +19,7 @@ use Rattle.ir_tree.specs.NodeValues.{role_of, role_by, channel_type}
 use Rattle.ir_verify.specs.Checks.{Check, note, noted}
 use Rattle.ir_verify.specs.Fitting.{Types, types_behind, node_fits, types_fit, predicate_fits, first_is_token, site_fits}
 use Rattle.ir_verify.specs.Lines.{Seen, see, see_op, is_after_all, is_id_after, is_named, are_there, attributes_there, is_chained, is_chained_role, see_role, is_at_end, is_typed, own_levels, type_limits, node_checks}
-use Rattle.ir_verify.specs.Verified.{nowhere, nodes_checks, seen_after}
+use Rattle.ir_verify.specs.Verified.{nodes_checks, seen_after}
 use Rattle.ir_verify.specs.Typed.Typed.{none_broken}
 use Rattle.ir_rebuild.specs.Built.{FitsAt, is_plain_op}
 use Rattle.ir_rebuild.proofs.Moving.{both, and_both}

@@ -15,7 +15,8 @@ use Rattle.ir_verify.specs.RuleNumbers as rule
 use Rattle.ir_verify.specs.Lines.{Seen, package_checks, head_checks, next_checks, is_name, is_plain, is_some_proc}
 use Rattle.xb_span.specs.declared.fault.Fault.TheVariants.{Passed}
 use Rattle.xb_span.specs.declared.limit.What.TheVariants as what
-use Rattle.ir_verify.specs.Verified.{IsVerified, first_fault, nowhere, nowhere_proc, nowhere_at_all, channels_checks, procs_checks, proc_checks, seen_after, at_start, nothing_seen, checks_of, nodes_checks, count_check}
+use Rattle.xb_span.specs.Spans.{nowhere}
+use Rattle.ir_verify.specs.Verified.{IsVerified, first_fault, nowhere_proc, nowhere_at_all, channels_checks, procs_checks, proc_checks, seen_after, at_start, nothing_seen, checks_of, nodes_checks, count_check}
 use Rattle.ir_verify.specs.Typed.Typed.{none_broken}
 use Rattle.ir_verify.proofs.Lemmas.Typed.Checked.{none_noted}
 use Rattle.ir_verify.proofs.Lemmas.Typed.{verified_proc}

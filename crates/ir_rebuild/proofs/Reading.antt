@@ -4,6 +4,7 @@ use Rattle.std.specs.Prelude.{slice_get, not, ◌||◌}
 use Rattle.std.specs.List.{list_all}
 use Rattle.std.proofs.lemmas.List.{append-nil, append_assoc}
 use Rattle.std.proofs.lemmas.Option.{slice_get-get_or}
+use Rattle.xb_span.specs.Spans.{nowhere}
 use Rattle.base.proofs.Lemmas.Lists.Indices.{slice_get-append_right}
 use Rattle.xb_bits.specs.Word.{Word}
 use Rattle.xb_value.specs.declared.value.Value.{Value}
@@ -25,7 +26,7 @@ use Rattle.ir_tree.specs.NodeValues.{role_of}
 use Rattle.ir_tree.specs.Activations.{sites_by, sites_of}
 use Rattle.ir_verify.specs.Fitting.{type_or}
 use Rattle.ir_verify.specs.Lines.{Seen, see, is_there, is_id_after, own_levels, type_limits, head_checks}
-use Rattle.ir_verify.specs.Verified.{nowhere, nodes_checks, seen_after, at_start}
+use Rattle.ir_verify.specs.Verified.{nodes_checks, seen_after, at_start}
 use Rattle.ir_verify.specs.Typed.Typed.{none_broken}
 use Rattle.ir_verify.proofs.Lemmas.Typed.Scopes.{IsOperand}
 use Rattle.ir_rebuild.specs.Operands.{operands_in, node_of}

@@ -3,6 +3,7 @@ use Rattle.std.proofs.Common.{◌≡◌, ℕ, suc, ◌+◌, ◌<◌, List, [], �
 use Rattle.std.specs.Prelude.{slice_get}
 use Rattle.std.specs.List.{list_all}
 use Rattle.std.proofs.lemmas.List.{append-nil, append_assoc, get_or_append_left}
+use Rattle.xb_span.specs.Spans.{nowhere}
 use Rattle.xb_bits.specs.Word.{Word}
 use Rattle.xb_value.specs.declared.value.Value.{Value}
 use Rattle.ir_tree.specs.declared.ir_type.IrType.{IrType}
@@ -14,7 +15,7 @@ use Rattle.ir_tree.specs.Constants.{no_value}
 use Rattle.ir_tree.specs.NodeValues.{role_of, Setting, is_on, pure_value, no_word, role_value, value_by}
 use Rattle.ir_verify.specs.Fitting.{types_behind}
 use Rattle.ir_verify.specs.Lines.{Seen, see, is_there, node_checks}
-use Rattle.ir_verify.specs.Verified.{nowhere, nodes_checks}
+use Rattle.ir_verify.specs.Verified.{nodes_checks}
 use Rattle.ir_verify.specs.Typed.Typed.{AreChannels}
 use Rattle.ir_verify.proofs.Lemmas.Typed.Scopes.{IsOperand, IsTyped, AreTyped, none_typed, more_typed, operands_typed}
 use Rattle.ir_verify.proofs.Lemmas.Typed.Nodes.{no_fault, node_typed}

@@ -7,6 +7,7 @@ use Rattle.std.proofs.Math.Seq.{take-suc}
 use Rattle.std.proofs.lemmas.List.{map-append}
 use Rattle.xb_span.specs.declared.fault.Fault.{Fault}
 use Rattle.xb_span.specs.declared.span.Span.{Span}
+use Rattle.xb_span.specs.Spans.{nowhere}
 use Rattle.ir_tree.specs.declared.ir_type.IrType.{IrType}
 use Rattle.ir_tree.specs.declared.node.Node.{Node}
 use Rattle.ir_tree.specs.declared.package.Channel.{Channel}
@@ -14,7 +15,7 @@ use Rattle.ir_tree.specs.declared.package.Proc.{Proc}
 use Rattle.ir_verify.specs.declared.line_spans.ProcSpans.{ProcSpans}
 use Rattle.ir_verify.specs.Checks.{noted}
 use Rattle.ir_verify.specs.Lines.{Seen, see, is_among, channel_checks, node_checks}
-use Rattle.ir_verify.specs.Verified.{nowhere, nowhere_proc, channels_checks, nodes_checks, seen_after, at_start, proc_checks, procs_checks}
+use Rattle.ir_verify.specs.Verified.{nowhere_proc, channels_checks, nodes_checks, seen_after, at_start, proc_checks, procs_checks}
 use Rattle.ir_verify.proofs.Noted.{noted-append}
 
 -- ---- names

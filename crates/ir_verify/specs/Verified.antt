@@ -4,6 +4,7 @@ use Rattle.xb_span.specs.declared.span.Span.{Span}
 use Rattle.xb_span.specs.declared.fault.Fault.{Fault}
 use Rattle.xb_span.specs.declared.fault.Fault.TheVariants.{Passed}
 use Rattle.xb_span.specs.declared.limit.What.TheVariants as what
+use Rattle.xb_span.specs.Spans.{nowhere}
 use Rattle.ir_tree.specs.declared.ir_type.IrType.{IrType}
 use Rattle.ir_tree.specs.declared.node.Node.{Node}
 use Rattle.ir_tree.specs.declared.package.Channel.{Channel}
@@ -14,10 +15,6 @@ use Rattle.ir_verify.specs.declared.line_spans.LineSpans.{LineSpans}
 use Rattle.ir_verify.specs.declared.line_spans.ProcSpans.{ProcSpans}
 use Rattle.ir_verify.specs.Checks.{Check, noted}
 use Rattle.ir_verify.specs.Lines.{Seen, see, package_checks, channel_checks, head_checks, node_checks, next_checks}
-
--- where a line stands that no text shows
-abbrev pub nowhere : Span
-nowhere = record { from = 0; to = 0 }
 
 abbrev pub nowhere_proc : ProcSpans
 nowhere_proc = record { head = nowhere; nodes = []; next = nowhere; end = 0 }

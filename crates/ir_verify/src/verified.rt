@@ -1,6 +1,7 @@
 //! The rules and limits of a package.
 
 ghost use Rattle.std.specs.Prelude.{◌≡◌, ◌⊎◌, ◌<◌, ◌≤◌, ◌^◌, ◌+◌, [], take, ℕ, List, true, not, length, get_or, slice_set, IfOk, OnOk, IfErr, Some, None, map, option_map};
+ghost use Rattle.xb_span.specs.Spans.{nowhere};
 ghost use Rattle.xb_span.specs.Fault.{error_of};
 ghost use Rattle.xb_span.specs.declared.read_error.ReadError.TheVariants.{OutOfMemory};
 ghost use Rattle.xb_span.specs.declared.fault.Fault.TheVariants as fault;
@@ -9,7 +10,7 @@ ghost use Rattle.ir_tree.specs.Activations.{sites_of};
 ghost use Rattle.ir_verify.specs.Checks.{noted};
 ghost use Rattle.ir_verify.specs.Lines.{is_among};
 ghost use Rattle.ir_verify.specs.Inner.Scopes.{seen_by};
-ghost use Rattle.ir_verify.specs.Verified.{IsVerified, nowhere, nowhere_proc, nowhere_at_all, channels_checks, nodes_checks, seen_after, at_start, proc_checks, procs_checks, last_end, nothing_seen, first_fault};
+ghost use Rattle.ir_verify.specs.Verified.{IsVerified, nowhere_proc, nowhere_at_all, channels_checks, nodes_checks, seen_after, at_start, proc_checks, procs_checks, last_end, nothing_seen, first_fault};
 
 use crate::checks::note;
 use crate::fitting::Scope;

@@ -7,6 +7,7 @@ use Rattle.std.proofs.lemmas.Bool.Decides.{nat_tests}
 use Rattle.std.proofs.lemmas.List.{length-map}
 use Rattle.xb_span.specs.declared.span.Span.{Span}
 use Rattle.xb_span.specs.declared.limit.What.TheVariants as what
+use Rattle.xb_span.specs.Spans.{nowhere}
 use Rattle.xb_value.specs.declared.ty.Ty.{Ty}
 use Rattle.xb_value.specs.declared.ty.Ty as ty
 use Rattle.xb_value.specs.Width.{width_of, leaf_count, leaves_step}
@@ -33,7 +34,7 @@ use Rattle.ir_verify.specs.Checks.{Check, limit_at}
 use Rattle.ir_verify.specs.Fitting.{types_behind, node_fits}
 use Rattle.ir_verify.specs.Lines.{Seen, see, type_limits, is_proc_named, is_state, is_there, is_there_if, are_there, attributes_there, is_id_after, is_named, is_chained, is_at_end, is_typed, own_levels, node_checks}
 use Rattle.ir_tree.specs.NodeTypes.Types.{widths_in, widths_step, joined_lists, levels_of}
-use Rattle.ir_verify.specs.Verified.{nowhere, nodes_checks}
+use Rattle.ir_verify.specs.Verified.{nodes_checks}
 use Rattle.ir_tree.proofs.Lemmas.NodeTypes.IrTypes.{fold-Bits, fold-Tuple, ty_of-Bits, ty_of-Token, ty_of-Tuple}
 use Rattle.std.specs.Prelude.{get_or}
 use Rattle.ir_verify.specs.Typed.Typed.{none_broken, IsVerifiedProc}

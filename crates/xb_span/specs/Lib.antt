@@ -1,3 +1,5 @@
+-- what stands for a span that isn't there
+pub mod Spans
 -- the order of faults, and which of them is named
 pub mod Fault
 -- the limits: their order, and the words for them

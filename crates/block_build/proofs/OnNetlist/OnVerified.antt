@@ -4,6 +4,7 @@ use Rattle.std.specs.Prelude.{slice_get, not, get_or, ◌&&◌}
 use Rattle.std.specs.List.{AllByRecursion}
 use Rattle.std.proofs.lemmas.Bool.Decides.{nat_tests}
 use Rattle.xb_span.specs.declared.span.Span.{Span}
+use Rattle.xb_span.specs.Spans.{nowhere}
 use Rattle.ir_tree.specs.declared.ir_type.IrType.{IrType}
 use Rattle.ir_tree.specs.declared.node.Attributes.{Attributes}
 use Rattle.ir_tree.specs.declared.node.Attributes.TheVariants as attributes
@@ -16,7 +17,7 @@ use Rattle.ir_tree.specs.declared.package.Proc.{Proc}
 use Rattle.ir_verify.specs.Fitting.{type_in, types_behind}
 use Rattle.ir_verify.specs.Lines.{Seen, see, node_checks, is_named, is_id_after, is_there, are_there, is_there_if, attributes_there}
 use Rattle.ir_verify.specs.Typed.Typed.{none_broken}
-use Rattle.ir_verify.specs.Verified.{IsVerified, nowhere, nodes_checks}
+use Rattle.ir_verify.specs.Verified.{IsVerified, nodes_checks}
 use Rattle.ir_tree.specs.NodeTypes.Types.{same_type}
 use Rattle.ir_verify.proofs.Lemmas.Typed.{verified_proc}
 use Rattle.ir_verify.proofs.Lemmas.Typed.Checked.{both_true, not_not_true, parts_not}

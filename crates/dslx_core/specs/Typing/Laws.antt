@@ -2,5 +2,7 @@
 pub mod Agreement
 -- the least of several faults
 pub mod Least
+-- what lies below items
+pub mod Ranks
 -- texts in which recursion ends
 pub mod Recursion

@@ -1,25 +1,29 @@
 //! What holds of the meaning of texts and of their faults, for every text.
 ghost use Rattle.std.specs.Prelude.{◌≡◌, ◌↔◌, ◌≤◌, ℕ, List, [], Option, Some, None, true, length};
+ghost use Rattle.std.specs.List.{list_any};
 ghost use Rattle.std.specs.Option.{option_map};
+ghost use Rattle.std.specs.Str.{bytes_eq};
 ghost use Rattle.xb_span.specs.Fault.{first_of, key_of};
 ghost use Rattle.xb_span.specs.declared.fault.Fault.{Fault};
 ghost use Rattle.xb_span.specs.declared.span.Span.{Span};
 ghost use Rattle.dslx_tree.specs.declared.expr.Expr.{Expr};
+ghost use Rattle.dslx_tree.specs.declared.item.Definition.{Definition};
 ghost use Rattle.dslx_tree.specs.declared.item.Module.{Module};
 ghost use Rattle.dslx_tree.specs.declared.operator.Binary.{Binary};
 ghost use Rattle.dslx_tree.specs.declared.operator.Prefix.{Prefix};
 ghost use Rattle.dslx_meaning.specs.Environment.{Meanings, Env, Given};
-ghost use Rattle.dslx_meaning.specs.Items.{meanings_of, meanings_over, meanings_within};
+ghost use Rattle.dslx_meaning.specs.Items.{item_named, meanings_of, meanings_over, meanings_within};
 ghost use Rattle.dslx_meaning.specs.Meaning.{value_of};
 ghost use Rattle.dslx_meaning.specs.Operators.{binary_value, prefix_value, cast_value};
 ghost use Rattle.dslx_meaning.specs.Values.{type_of_value};
 ghost use Rattle.dslx_meaning.specs.declared.ty.DslxType.{DslxType};
 ghost use Rattle.dslx_meaning.specs.declared.value.DslxValue.{DslxValue};
 ghost use Rattle.dslx_meaning.specs.Rules.ModuleRules.{faults_of, first_fault};
-ghost use Rattle.dslx_meaning.specs.Rules.Mentions.{mentioned, free_names};
+ghost use Rattle.dslx_meaning.specs.Rules.Mentions.{mentioned, mentions_of, free_names, item_reaches, reaches_within};
 ghost use Rattle.dslx_meaning.specs.Rules.OperatorRules.{is_bits, is_bits_or_enum, binary_faults, binary_type};
 ghost use Rattle.dslx_core.specs.Typing.Laws.Agreement.{AgreeOn, AreBoundAlike, BindConstantsAlike};
 ghost use Rattle.dslx_core.specs.Typing.Laws.Least.{IsLeastOf, HaveSameFaults};
+ghost use Rattle.dslx_core.specs.Typing.Laws.Ranks.{Ranked};
 ghost use Rattle.dslx_core.specs.Typing.Laws.Recursion.{HasNoCycle};
 
 /// The fault that is named is one of the text's, and none of the others is to be named before it.
@@ -69,4 +73,18 @@ pub fn operations_have_values_of_their_types()
     ensures prefix { (o : Prefix) (v : DslxValue) → is_bits (type_of_value v) ≡ true → option_map type_of_value (prefix_value o v) ≡ Some (type_of_value v) }
     ensures cast { (t : DslxType) (v : DslxValue) → is_bits t ≡ true → is_bits_or_enum (type_of_value v) ≡ true
         → option_map type_of_value (cast_value t v) ≡ Some t }
+{}
+
+/// What an item reaches at all it reaches by as many mentions as there are items, so that it reaches what it mentions, and reaching
+/// goes on. Rule 3 at a mention is then that both items reach one another, or are one.
+pub fn reaching_takes_no_more_than_the_items()
+    ensures bounded { (m : Module) (k : ℕ) (a b : List ℕ) → reaches_within m k a b ≡ true → item_reaches m a b ≡ true }
+    ensures mentioned { (m : Module) (a b : List ℕ) → list_any (bytes_eq b) (mentions_of m (item_named a m.items)) ≡ true → item_reaches m a b ≡ true }
+    ensures on { (m : Module) (a b c : List ℕ) → item_reaches m a b ≡ true → item_reaches m b c ≡ true → item_reaches m a c ≡ true }
+{}
+
+/// Each item has a rank, whatever cycles there are: chains of items, each of which reaches the next and isn't reached by it, are no
+/// longer than the list of items.
+pub fn items_have_ranks()
+    ensures { (m : Module) (name : List ℕ) (x : Definition) → item_named name m.items ≡ Some x → Ranked m (length m.items) name }
 {}

@@ -6,6 +6,7 @@ use Rattle.xb_span.specs.declared.fault.Fault.{Fault}
 use Rattle.xb_span.specs.declared.fault.Fault.TheVariants.{Whole}
 use Rattle.xb_span.specs.declared.limit.What.TheVariants as what
 use Rattle.xb_span.specs.Fault.{first_of}
+use Rattle.xb_span.specs.Spans.{nowhere}
 use Rattle.dslx_tree.specs.declared.ident.Ident.{Ident}
 use Rattle.dslx_tree.specs.declared.expr.Expr.{Expr}
 use Rattle.dslx_tree.specs.declared.item.Module.{Module}
@@ -214,9 +215,6 @@ item_names before [] = []
 item_names before (i ∷ is) = listed_name before (ident_of i.definition) ++ item_names ((ident_of i.definition).name ∷ before) is
 
 -- ---- the top
-
-abbrev pub nowhere : Span
-nowhere = record { from = 0; to = 0 }
 
 abbrev pub not_a_proc : Option Definition → List Fault
 not_a_proc None = breaks rule.TOP_IS_A_PROC nowhere ∷ []

@@ -1,13 +1,14 @@
 -- What the builder does at the rules of atoms is what they make.
 use Rattle.std.proofs.Common.{refl, ap, [], ◌∷◌, drop}
 use Rattle.std.specs.Prelude.{None, Some}
+use Rattle.xb_span.specs.Spans.{nowhere}
 use Rattle.grammar.specs.declared.table.Symbol.TheVariants.{Terminal, Nonterminal}
 use Rattle.dslx_token.specs.declared.rules.generated.kind.TheConstants as kind
 use Rattle.dslx_token.specs.declared.rules.generated.nonterminal.TheConstants as nonterminal
 use Rattle.dslx_tree.specs.declared.type_expr.TypeExpr.{out-TypeExpr}
 use Rattle.dslx_tree.specs.declared.expr.Node as nodes
 use Rattle.dslx_actions.specs.declared.parts.SemanticStacks.{SemanticStacks}
-use Rattle.dslx_actions.specs.Empty.{no_expr, no_ident, no_type, nowhere}
+use Rattle.dslx_actions.specs.Empty.{no_expr, no_ident, no_type}
 use Rattle.base.specs.Stacks.Tops.{top_or}
 use Rattle.dslx_parser.specs.Builder.Building.{reduced, rule_of}
 use Rattle.dslx_parser.specs.Builder.Table.{table}

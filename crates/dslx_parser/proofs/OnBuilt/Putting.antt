@@ -4,6 +4,7 @@ use Rattle.std.specs.Prelude.{Option}
 use Rattle.grammar.specs.declared.table.Symbol.{Symbol}
 use Rattle.grammar.specs.declared.table.Symbol.TheVariants.{Terminal, Nonterminal}
 use Rattle.xb_span.specs.declared.span.Span.{Span}
+use Rattle.xb_span.specs.Spans.{nowhere}
 use Rattle.dslx_tree.specs.declared.block.Stmt.{Stmt}
 use Rattle.dslx_tree.specs.declared.expr.Expr.{Expr}
 use Rattle.dslx_tree.specs.declared.expr.Node.{Node}
@@ -11,7 +12,7 @@ use Rattle.dslx_tree.specs.declared.pattern.Pattern.{Pattern}
 use Rattle.dslx_tree.specs.declared.type_expr.TypeExpr.{TypeExpr}
 use Rattle.dslx_tree.specs.declared.operators.chain.Operand.{Operand}
 use Rattle.dslx_actions.specs.declared.parts.SemanticStacks.{SemanticStacks}
-use Rattle.dslx_actions.specs.Empty.{no_expr, no_ident, no_type, nowhere}
+use Rattle.dslx_actions.specs.Empty.{no_expr, no_ident, no_type}
 use Rattle.dslx_actions.specs.Tokens.{shifted}
 use Rattle.base.specs.Stacks.Tops.{top_or}
 use Rattle.dslx_parser.specs.Syntax.Nodes.{in_turn, operand_at}

@@ -1,6 +1,7 @@
 -- What the machine comes to where a struct is used: what the type means that is its name alone.
 use Rattle.std.proofs.Common.{◌≡◌, ℕ, zero, suc, List, [], Option, Some, None, length, refl, sym, ap, ◌∙◌}
 use Rattle.xb_span.specs.declared.span.Span.{Span}
+use Rattle.xb_span.specs.Spans.{nowhere}
 use Rattle.dslx_tree.specs.declared.block.Stmt.TheFolds.{fold-roll-TypeExpr, fold-roll-TypeNode}
 use Rattle.dslx_tree.specs.declared.block.Stmt.TheOpen.{TypeNode-F}
 use Rattle.dslx_tree.specs.declared.item.Definition.{Definition}
@@ -27,9 +28,6 @@ at_rest m bound n = record { text = m; todo = []; found = ValueFound None; bound
 
 abbrev items_there : Module → ℕ → Env
 items_there m n = record { items = meanings_within m n; bound = [] }
-
-nowhere : Span
-nowhere = record { from = 0; to = 0 }
 
 -- ---- types
 

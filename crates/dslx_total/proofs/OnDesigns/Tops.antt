@@ -2,6 +2,7 @@
 use Rattle.std.proofs.Common.{◌≡◌, ◌++◌, ℕ, zero, suc, length, Bool, true, false, List, [], ◌∷◌, Option, Some, None, arith, refl, sym, ap, ◌∙◌}
 use mathlib.Core.Bool.{true≢false}
 use Rattle.std.proofs.lemmas.List.{length-append}
+use Rattle.xb_span.specs.Spans.{nowhere}
 use Rattle.dslx_tree.specs.declared.item.Definition.{Definition}
 use Rattle.dslx_tree.specs.declared.item.Definition.TheVariants as d
 use Rattle.dslx_tree.specs.declared.item.Module.{Module}
@@ -11,7 +12,7 @@ use Rattle.dslx_meaning.specs.Lists.{and_then}
 use Rattle.dslx_meaning.specs.Network.{top_parametric_args, top_proc}
 use Rattle.dslx_meaning.specs.declared.value.DslxValue.{DslxValue}
 use Rattle.dslx_meaning.specs.Rules.TypeEnvs.{Instance, breaks}
-use Rattle.dslx_meaning.specs.Rules.ModuleRules.{faults_of, ident_of, instance_limit, instances_faults, instances_of, items_found, globals_of, not_a_proc, nowhere, outside_instances, top_faults, top_found}
+use Rattle.dslx_meaning.specs.Rules.ModuleRules.{faults_of, ident_of, instance_limit, instances_faults, instances_of, items_found, globals_of, not_a_proc, outside_instances, top_faults, top_found}
 use Rattle.dslx_core.specs.Typing.Laws.Recursion.{HasNoCycle}
 use Rattle.dslx_core.specs.Typing.TypingRelations.Closed.{ends_within}
 use Rattle.dslx_core.proofs.Lemmas.Typing.TypingRelations.{every_item}

@@ -4,6 +4,7 @@ use Rattle.xb_span.specs.declared.fault.Fault.{Fault}
 use Rattle.xb_span.specs.declared.limit.What.TheVariants as what
 use Rattle.xb_span.specs.declared.span.Span.{Span}
 use Rattle.xb_span.specs.Fault.{precedes}
+use Rattle.xb_span.specs.Spans.{nowhere}
 use Rattle.ir_tree.specs.declared.ir_type.IrType.{IrType}
 use Rattle.ir_tree.specs.declared.node.Node.{Node}
 use Rattle.ir_tree.specs.declared.package.Channel.{Channel}
@@ -15,7 +16,7 @@ use Rattle.ir_verify.specs.Checks.{Check, limit_at, note, noted}
 use Rattle.ir_verify.specs.Lines.{Seen, see, channel_checks, head_checks, next_checks, node_checks, own_levels, type_limits}
 use Rattle.ir_tree.specs.NodeTypes.Types.{widths_in}
 use Rattle.ir_tree.specs.NodeValues.{role_of}
-use Rattle.ir_verify.specs.Verified.{IsVerified, at_start, channels_checks, checks_of, first_fault, nodes_checks, nothing_seen, nowhere, nowhere_at_all, nowhere_proc, proc_checks, procs_checks, seen_after}
+use Rattle.ir_verify.specs.Verified.{IsVerified, at_start, channels_checks, checks_of, first_fault, nodes_checks, nothing_seen, nowhere_at_all, nowhere_proc, proc_checks, procs_checks, seen_after}
 use Rattle.std.specs.Prelude.{get_or, if◌then◌else◌}
 
 -- The two lists of checks say the same of what is broken.

@@ -7,6 +7,7 @@ use Rattle.std.proofs.lemmas.Bool.Decides.{nat_tests}
 use Rattle.std.proofs.lemmas.List.{map-append}
 use Rattle.base.proofs.Lemmas.Lists.Indices.{slice_get-append_left}
 use Rattle.xb_span.specs.declared.span.Span.{Span}
+use Rattle.xb_span.specs.Spans.{nowhere}
 use Rattle.delay_model.specs.declared.op.Op.{Op}
 use Rattle.delay_model.specs.declared.op.Op.TheVariants as op
 use Rattle.delay_model.specs.Signatures.{count_of, is_met}
@@ -25,7 +26,7 @@ use Rattle.ir_tree.specs.NodeTypes.Constants.{constant_fits}
 use Rattle.ir_verify.specs.Fitting.{Types, first_is_token, node_fits, predicate_fits, site_fits, types_behind, types_fit}
 use Rattle.ir_verify.specs.Lines.{Seen, are_there, attributes_there, is_at_end, is_chained, is_free, is_id_after, is_literal_of, is_named, is_there, is_there_if, is_typed, may_receive, may_send, node_checks, own_levels, see, type_limits}
 use Rattle.ir_tree.specs.NodeTypes.Types.{levels_of, marks_of}
-use Rattle.ir_verify.specs.Verified.{nodes_checks, nowhere}
+use Rattle.ir_verify.specs.Verified.{nodes_checks}
 use Rattle.ir_verify.specs.Typed.Typed.{none_broken}
 use Rattle.ir_verify.proofs.Lemmas.Typed.Checked.{both_true, not_not_true, parts_not}
 use Rattle.ir_text.specs.Printer.Parts.{node_name}

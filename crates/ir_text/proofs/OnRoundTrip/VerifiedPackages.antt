@@ -7,6 +7,7 @@ use Rattle.std.proofs.lemmas.Bool.Decides.{nat_tests}
 use Rattle.xb_span.specs.declared.span.Span.{Span}
 use Rattle.xb_span.specs.declared.fault.Fault.TheVariants.{Passed}
 use Rattle.xb_span.specs.declared.limit.What.TheVariants as what
+use Rattle.xb_span.specs.Spans.{nowhere}
 use Rattle.xb_value.specs.Width.{width_of}
 use Rattle.ir_tree.specs.declared.package.Channel.{Channel}
 use Rattle.ir_tree.specs.declared.package.Ends.{Ends}
@@ -22,7 +23,7 @@ use Rattle.ir_tree.specs.NodeTypes.Constants.{constant_fits}
 use Rattle.ir_verify.specs.Fitting.{type_in, types_behind}
 use Rattle.ir_verify.specs.Lines.{Seen, channel_checks, depth_in, head_checks, is_among, is_channel_named, is_channel_typed, is_name, is_named_well, is_proc_named, is_state, is_there, is_value_of, next_checks, package_checks, type_limits}
 use Rattle.ir_tree.specs.NodeTypes.Types.{marks_of, same_type}
-use Rattle.ir_verify.specs.Verified.{IsVerified, at_start, channels_checks, checks_of, count_check, first_fault, nodes_checks, nothing_seen, nowhere, nowhere_at_all, nowhere_proc, proc_checks, procs_checks, seen_after}
+use Rattle.ir_verify.specs.Verified.{IsVerified, at_start, channels_checks, checks_of, count_check, first_fault, nodes_checks, nothing_seen, nowhere_at_all, nowhere_proc, proc_checks, procs_checks, seen_after}
 use Rattle.ir_verify.specs.Typed.Typed.{none_broken}
 use Rattle.ir_verify.proofs.Lemmas.Typed.Checked.{both_true, none_noted, not_not_true, parts_not}
 use Rattle.ir_verify.proofs.Lemmas.Typed.{network_fits}

@@ -11,6 +11,7 @@ use Rattle.xb_span.specs.declared.read_error.ReadError.TheVariants.{Broken}
 use Rattle.xb_span.specs.declared.limit.What.TheVariants as what
 use Rattle.xb_span.specs.declared.span.Rule.{Rule}
 use Rattle.xb_span.specs.declared.span.Span.{Span}
+use Rattle.xb_span.specs.Spans.{nowhere}
 use Rattle.dslx_token.specs.Lexeme.{Lexeme}
 use Rattle.ir_tree.specs.Activations.{sites_of}
 use Rattle.ir_tree.specs.NodeTypes.Types.{widths_in}
@@ -22,7 +23,7 @@ use Rattle.ir_tree.specs.declared.package.Package.{Package}
 use Rattle.ir_tree.specs.declared.package.Proc.{Proc}
 use Rattle.ir_verify.specs.Checks.{Check, limit_at, note, noted}
 use Rattle.ir_verify.specs.Lines.{Seen, channel_checks, head_checks, next_checks, node_checks, own_levels, package_checks, see, type_limits}
-use Rattle.ir_verify.specs.Verified.{at_start, channels_checks, checks_of, count_check, first_fault, last_end, nodes_checks, nothing_seen, nowhere, nowhere_proc, proc_checks, procs_checks, seen_after}
+use Rattle.ir_verify.specs.Verified.{at_start, channels_checks, checks_of, count_check, first_fault, last_end, nodes_checks, nothing_seen, nowhere_proc, proc_checks, procs_checks, seen_after}
 use Rattle.ir_verify.specs.declared.line_spans.LineSpans.{LineSpans}
 use Rattle.ir_verify.specs.declared.line_spans.ProcSpans.{ProcSpans}
 use Rattle.ir_text.specs.Parser.Texts.{GivesPackage, accepted, cut_off, misplaced, too_deep, faulty}

@@ -3,6 +3,7 @@ use Rattle.std.proofs.Common.{ℕ, ◌+◌, min, List, [], ◌∷◌, drop, take
 use Rattle.grammar.specs.declared.bottom_up.Step.{Step}
 use Rattle.grammar.specs.declared.bottom_up.Step.TheVariants.{Shift, Reduce}
 use Rattle.xb_span.specs.declared.span.Span.{Span}
+use Rattle.xb_span.specs.Spans.{nowhere}
 use Rattle.delay_model.specs.Names.{op_named}
 use Rattle.delay_model.specs.declared.op.Op.{Op}
 use Rattle.dslx_token.specs.Lexeme.{Lexeme}
@@ -14,7 +15,6 @@ use Rattle.ir_builder.specs.declared.rule.Rule.{Rule}
 use Rattle.ir_builder.specs.declared.rule.Rule.TheVariants.{Keep, Skip, Start, More, Name, Number, BitsElement, TokenElement, TupleElement, TypeOf, NumberValue, TupleValue, ArrayValue, StateOperand, NodeOperand, SomeOperand, NoOperand, PlainCall, SliceCall, DynamicCall, ExtendCall, SelCall, IndexCall, IndicesCall, LiteralCall, SiteChannel, SiteCall, ChannelId, Input, Output, Inner, ChannelOf, HeadOf, NodeOf, NextOf, ProcOf, PackageLine}
 use Rattle.ir_builder.specs.Building.{rule_of}
 use Rattle.ir_builder.specs.Rules.{op_or, reach, token_of}
-use Rattle.ir_builder.specs.Empty.{nowhere}
 
 -- a node by its id and its operation
 pub record NodeKey : Type 0 where

@@ -6,6 +6,7 @@ use Rattle.grammar.specs.Derivation.{start_of}
 use Rattle.grammar.specs.Steps.{steps_of}
 use Rattle.grammar.specs.Tree.{Forest}
 use Rattle.xb_span.specs.declared.span.Span.{Span}
+use Rattle.xb_span.specs.Spans.{nowhere}
 use Rattle.dslx_token.specs.Lexeme.{Lexeme}
 use Rattle.base.specs.Stacks.Tops.{top_or}
 use Rattle.ir_token.specs.Kinds.{id_part, is_id, op_part}
@@ -17,7 +18,7 @@ use Rattle.ir_verify.specs.declared.line_spans.ProcSpans.{ProcSpans}
 use Rattle.ir_builder.specs.declared.builder.Spanned.{Spanned}
 use Rattle.ir_builder.specs.declared.state.State.{State}
 use Rattle.ir_builder.specs.Building.{built, package_of, spans_of}
-use Rattle.ir_builder.specs.Empty.{empty, nowhere}
+use Rattle.ir_builder.specs.Empty.{empty}
 use Rattle.ir_builder.specs.Rules.{token_of}
 use Rattle.ir_text.specs.Parser.Reads.{Reads}
 use Rattle.ir_text.specs.Parser.Texts.{IsIrTextOf}

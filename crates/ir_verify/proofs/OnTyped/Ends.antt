@@ -2,6 +2,7 @@
 use Rattle.std.proofs.Common.{◌≡◌, ℕ, zero, suc, ◌-◌, ◌<◌, List, [], ◌∷◌, ◌++◌, length, get_or, Bool, true, false, IsTrue, Option, Some, None, refl, sym, ap, subst, ◌∙◌, arith}
 use Rattle.std.specs.Prelude.{slice_get, slice_set, not}
 use Rattle.xb_span.specs.declared.span.Span.{Span}
+use Rattle.xb_span.specs.Spans.{nowhere}
 use Rattle.net_core.specs.declared.net.Site.{Site}
 use Rattle.delay_model.specs.declared.op.Op.{Op}
 use Rattle.ir_tree.specs.declared.ir_type.IrType.{IrType}
@@ -16,7 +17,7 @@ use Rattle.ir_tree.specs.Activations.{sites_by, sites_of}
 use Rattle.ir_verify.specs.declared.line_spans.ProcSpans.{ProcSpans}
 use Rattle.ir_verify.specs.Fitting.{types_behind, node_fits}
 use Rattle.ir_verify.specs.Lines.{Seen, see, see_role, see_op, node_checks, head_checks, is_named, is_chained, is_at_end, is_free, may_receive, may_send}
-use Rattle.ir_verify.specs.Verified.{nowhere, nowhere_proc, nodes_checks, seen_after, at_start, proc_checks, procs_checks}
+use Rattle.ir_verify.specs.Verified.{nowhere_proc, nodes_checks, seen_after, at_start, proc_checks, procs_checks}
 use Rattle.ir_verify.specs.Typed.Typed.{none_broken}
 use Rattle.ir_verify.proofs.Lemmas.Typed.Checked.{both_true, parts_not, not_not_true}
 

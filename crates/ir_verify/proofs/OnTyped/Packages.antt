@@ -29,11 +29,12 @@ use Rattle.ir_tree.specs.Networks.{kind_of, chan_of, head_of, network_of, behavi
 use Rattle.ir_verify.specs.declared.line_spans.ProcSpans.{ProcSpans}
 use Rattle.xb_span.specs.declared.fault.Fault.TheVariants.{Passed}
 use Rattle.xb_span.specs.declared.limit.What.TheVariants as what
+use Rattle.xb_span.specs.Spans.{nowhere}
 use Rattle.ir_verify.specs.Checks.{Check, bounded}
 use Rattle.ir_tree.specs.NodeTypes.Constants.{constant_fits}
 use Rattle.ir_tree.specs.NodeTypes.Types.{marks_of}
 use Rattle.ir_verify.specs.Lines.{Seen, package_checks, channel_checks, head_checks, next_checks, is_among, is_channel_named, is_proc_named, is_channel_typed, depth_in, type_limits, is_state, is_value_of}
-use Rattle.ir_verify.specs.Verified.{IsVerified, first_fault, nowhere, nowhere_proc, nowhere_at_all, count_check, channels_checks, nodes_checks, proc_checks, procs_checks, nothing_seen, at_start, seen_after, checks_of}
+use Rattle.ir_verify.specs.Verified.{IsVerified, first_fault, nowhere_proc, nowhere_at_all, count_check, channels_checks, nodes_checks, proc_checks, procs_checks, nothing_seen, at_start, seen_after, checks_of}
 use Rattle.ir_verify.specs.Typed.Typed.{none_broken, IsWordType, AreChannels, IsVerifiedProc}
 use Rattle.ir_verify.proofs.Lemmas.Typed.Checked.{both_true, not_true, not_not_true, none_noted, parts_not}
 use Rattle.ir_verify.proofs.Lemmas.Typed.Tests.{IsLimited, limited, limited_widths, has_some, widths_count}

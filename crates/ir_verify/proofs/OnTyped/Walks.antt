@@ -4,6 +4,7 @@ use Rattle.std.specs.Prelude.{slice_get, if◌then◌else◌, not}
 use Rattle.std.proofs.lemmas.List.{append-nil, append_assoc}
 use Rattle.xb_bits.specs.Word.{Word}
 use Rattle.xb_span.specs.declared.span.Span.{Span}
+use Rattle.xb_span.specs.Spans.{nowhere}
 use Rattle.xb_value.specs.declared.value.Value.{Value}
 use Rattle.xb_value.specs.Typing.{IsOfType}
 use Rattle.net_core.specs.declared.net.Site.{Site}
@@ -21,7 +22,7 @@ use Rattle.ir_tree.specs.Activations.{sites_by, sites_of, sent_by, turns_by, tur
 use Rattle.ir_verify.specs.Fitting.{types_behind, type_in}
 use Rattle.ir_tree.specs.NodeTypes.Types.{same_type, marks_of}
 use Rattle.ir_verify.specs.Lines.{Seen, see, node_checks, is_proc_named, is_state, is_value_of, is_there}
-use Rattle.ir_verify.specs.Verified.{nowhere, nodes_checks}
+use Rattle.ir_verify.specs.Verified.{nodes_checks}
 use Rattle.ir_verify.specs.Typed.Typed.{none_broken, AreChannels, IsVerifiedProc}
 use Rattle.ir_verify.proofs.Lemmas.Typed.Checked.{both_true, parts_not, not_not_true}
 use Rattle.ir_verify.proofs.Lemmas.Typed.Tests.{IsSound, same_is}

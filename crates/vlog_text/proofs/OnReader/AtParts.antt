@@ -13,6 +13,7 @@ use Rattle.xb_span.specs.declared.read_error.ReadError.{ReadError}
 use Rattle.xb_span.specs.declared.read_error.ReadError.TheVariants.{Syntax, Broken, Over, OutOfMemory}
 use Rattle.xb_span.specs.declared.span.Rule.{Rule}
 use Rattle.xb_span.specs.declared.span.Span.{Span}
+use Rattle.xb_span.specs.Spans.{nowhere}
 use Rattle.vlog_token.specs.Tokens.{HasTokens}
 use Rattle.vlog_tree.specs.declared.module.Assignment.{Assignment}
 use Rattle.vlog_tree.specs.declared.module.Declaration.{Declaration}
@@ -24,7 +25,7 @@ use Rattle.vlog_tree.specs.Signals.{declared_own, declared_port, signals}
 use Rattle.vlog_tree.specs.Verifier.Checks.{PartCheck, note, noted, walk, width_at}
 use Rattle.vlog_tree.specs.Verifier.Parts.{assignment_checks, port_checks, see_name, see_set, see_target, set_checks, signal_checks}
 use Rattle.vlog_tree.specs.Verifier.Ports.{Clock, due_behind}
-use Rattle.vlog_tree.specs.Verifier.WithSpans.{nowhere, signal_span}
+use Rattle.vlog_tree.specs.Verifier.WithSpans.{signal_span}
 use Rattle.vlog_tree.specs.Verifier.Verified.{IsVerdict, Loops, assignments_checks, clocks_checks, end_check, first, literals_checks, module_checks, module_literals, none, ports_checks, resets_checks, set_targets, signals_checks, targets}
 use Rattle.vlog_text.specs.declared.builder.parsed.Parsed.{Parsed}
 use Rattle.vlog_text.specs.Parser.Reads.{IsParsing, Reads, misplaced, whole}

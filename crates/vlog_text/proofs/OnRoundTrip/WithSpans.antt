@@ -4,13 +4,14 @@ use Rattle.std.specs.Prelude.{get_or, if◌then◌else◌}
 use Rattle.std.specs.List.{AllByRecursion}
 use Rattle.xb_span.specs.declared.fault.Fault.{Fault}
 use Rattle.xb_span.specs.Fault.{precedes}
+use Rattle.xb_span.specs.Spans.{nowhere}
 use Rattle.vlog_tree.specs.declared.module.VModule.{VModule}
 use Rattle.vlog_tree.specs.Signals.{Declared, signals}
 use Rattle.vlog_tree.specs.declared.verifier.part_spans.PartSpans.{PartSpans}
 use Rattle.vlog_tree.specs.Verifier.Checks.{PartCheck, note, noted, walk, width_at}
 use Rattle.vlog_tree.specs.Verifier.Parts.{assignment_checks, is_among, port_checks, see_name, see_set, see_target, set_checks, signal_checks}
 use Rattle.vlog_tree.specs.Verifier.Ports.{Clock, due_behind}
-use Rattle.vlog_tree.specs.Verifier.WithSpans.{nowhere, no_spans, signal_span}
+use Rattle.vlog_tree.specs.Verifier.WithSpans.{no_spans, signal_span}
 use Rattle.vlog_tree.specs.Verifier.Verified.{IsVerdict, Loops, assignments_checks, clocks_checks, end_check, first, literals_checks, module_checks, module_literals, none, ports_checks, resets_checks, set_targets, signals_checks, targets}
 
 -- ---- checks

@@ -1,6 +1,7 @@
 -- Nothing built, and what stands for a part that isn't there, as never happens by the grammar.
 use Rattle.std.specs.Prelude.{[]}
 use Rattle.xb_span.specs.declared.span.Span.{Span}
+use Rattle.xb_span.specs.Spans.{nowhere}
 use Rattle.vlog_tree.specs.declared.expression.Atom.{Atom}
 use Rattle.vlog_tree.specs.declared.expression.Atom.TheVariants as atom
 use Rattle.vlog_tree.specs.declared.expression.Literal.{Literal}
@@ -10,9 +11,6 @@ use Rattle.vlog_tree.specs.declared.expression.Expr.{Expr}
 use Rattle.vlog_tree.specs.declared.expression.Expr.TheVariants as expr
 use Rattle.vlog_text.specs.Builder.Parts.{Named, literal_said}
 use Rattle.vlog_text.specs.declared.builder.state.State.{State}
-
-abbrev pub nowhere : Span
-nowhere = record { from = 0; to = 0 }
 
 abbrev pub no_ident : Named
 no_ident = record { span = nowhere; name = [] }

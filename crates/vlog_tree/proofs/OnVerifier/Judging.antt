@@ -3,9 +3,9 @@ use Rattle.std.proofs.lemmas.Bool.{cases_lt}
 use Rattle.std.proofs.Common.{◌⊎◌, inl, inr, ◌<◌, ◌≤◌, arith, ◌≡◌, ℕ, true, List, [], ◌∷◌, ◌++◌, refl, sym, ap, ◌∙◌, Option, Some, None, get_or}
 use Rattle.xb_span.specs.declared.fault.Fault.{Fault}
 use Rattle.xb_span.specs.declared.span.Span.{Span}
+use Rattle.xb_span.specs.Spans.{nowhere}
 use Rattle.vlog_tree.specs.declared.module.VModule.{VModule}
 use Rattle.vlog_tree.specs.declared.verifier.part_spans.PartSpans.{PartSpans}
-use Rattle.vlog_tree.specs.Verifier.WithSpans.{nowhere}
 use Rattle.vlog_tree.specs.Verifier.Checks.{PartCheck, note, noted, rule_at}
 use Rattle.vlog_tree.specs.Verifier.Verified.{module_checks, Loops, none, first, IsVerdict}
 use Rattle.vlog_tree.specs.Verifier.Inner.Firsts.{IsFirstLoop}

@@ -32,7 +32,7 @@ use Rattle.vlog_tree.specs.WellFormed.{ReadsThrough, reads_it, by_way, DriveApar
 use Rattle.vlog_tree.specs.Settled.{AreAllDriven, DrivesWires, IsUndriven}
 use Rattle.vlog_tree.specs.declared.verifier.part_spans.PartSpans.{PartSpans}
 use Rattle.vlog_tree.specs.Verifier.Checks.{PartCheck, note, noted, walk, width_at, seen_after}
-use Rattle.vlog_tree.specs.Verifier.WithSpans.{nowhere, signal_span}
+use Rattle.vlog_tree.specs.Verifier.WithSpans.{signal_span}
 use Rattle.vlog_tree.specs.Verifier.Ports.{Due, Clock, Reset, Data, Valid, Ready, is_input, same_direction, is_bit_input, continues, port_fits, due_behind, may_end}
 use Rattle.vlog_tree.specs.Verifier.Parts.{
   is_among,
@@ -58,6 +58,7 @@ use Rattle.vlog_tree.specs.Verifier.Loops.{IsWire, ReadsWire, Depends, direct}
 use Rattle.vlog_tree.specs.Verifier.Loops as loops
 use Rattle.vlog_tree.specs.Verifier.Verified.{targets, set_targets, signals_checks, ports_checks, end_check, assignments_checks, resets_checks, clocks_checks, set_literals, module_literals, literals_checks, module_checks, Loops, none, first, IsVerdict}
 use Rattle.xb_span.specs.declared.span.Span.{Span}
+use Rattle.xb_span.specs.Spans.{nowhere}
 
 -- ---- no fault is there
 

@@ -2,13 +2,14 @@
 use Rattle.std.specs.Prelude.{◌≡◌, ◌-◌, ℕ, ◌<◌, not, true, false, List, [], ◌∷◌, ◌++◌, length, map, flat_map, slice_get, get_or, Option, None, Some}
 use Rattle.xb_span.specs.declared.fault.Fault.{Fault}
 use Rattle.xb_span.specs.declared.span.Span.{Span}
+use Rattle.xb_span.specs.Spans.{nowhere}
 use Rattle.vlog_tree.specs.declared.module.VModule.{VModule}
 use Rattle.vlog_tree.specs.declared.module.Assignment.{Assignment}
 use Rattle.vlog_tree.specs.declared.module.Set.{Set}
 use Rattle.vlog_tree.specs.Signals.{signals}
 use Rattle.vlog_tree.specs.Forms.{literals, atom_literals}
 use Rattle.vlog_tree.specs.declared.verifier.part_spans.PartSpans.{PartSpans}
-use Rattle.vlog_tree.specs.Verifier.WithSpans.{nowhere, signal_span}
+use Rattle.vlog_tree.specs.Verifier.WithSpans.{signal_span}
 use Rattle.vlog_tree.specs.Verifier.Checks.{PartCheck, rule_at, width_at, noted, walk, seen_after}
 use Rattle.vlog_tree.specs.Verifier.Ports.{Clock, due_behind, may_end}
 use Rattle.vlog_tree.specs.Verifier.Parts.{signal_checks, see_name, port_checks, assignment_checks, see_target, set_checks, see_set}

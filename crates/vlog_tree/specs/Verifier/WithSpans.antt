@@ -1,12 +1,9 @@
 -- Where the parts of a module stand.
 use Rattle.std.specs.Prelude.{ℕ, ◌-◌, nat_lt, [], length, get_or, if◌then◌else◌}
 use Rattle.xb_span.specs.declared.span.Span.{Span}
+use Rattle.xb_span.specs.Spans.{nowhere}
 use Rattle.vlog_tree.specs.declared.module.VModule.{VModule}
 use Rattle.vlog_tree.specs.declared.verifier.part_spans.PartSpans.{PartSpans}
-
--- the span of what has none
-abbrev pub nowhere : Span
-nowhere = record { from = 0; to = 0 }
 
 abbrev pub no_spans : PartSpans
 no_spans = record { ports = []; declarations = []; assignments = []; at_reset = []; at_clock = []; literals = [] }

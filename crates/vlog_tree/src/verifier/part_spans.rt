@@ -1,5 +1,6 @@
 ghost use Rattle.std.specs.Prelude.{◌≡◌, get_or};
-ghost use Rattle.vlog_tree.specs.Verifier.WithSpans.{nowhere, signal_span};
+ghost use Rattle.xb_span.specs.Spans.{nowhere};
+ghost use Rattle.vlog_tree.specs.Verifier.WithSpans.{signal_span};
 
 use crate::VModule;
 use sqlite_items::Items;

@@ -1,8 +1,8 @@
 //! The rules and limits of all parts of a kind.
 
 ghost use Rattle.std.specs.Prelude.{◌≡◌, ◌++◌, ◌∷◌, [], ℕ, List, get_or, IfOk, OnOk, length, flat_map};
+ghost use Rattle.xb_span.specs.Spans.{nowhere};
 ghost use Rattle.vlog_tree.specs.Forms.{literals, atom_literals};
-ghost use Rattle.vlog_tree.specs.Verifier.WithSpans.{nowhere};
 ghost use Rattle.vlog_tree.specs.Verifier.Checks.{noted, walk, width_at};
 ghost use Rattle.vlog_tree.specs.Verifier.Parts.{count_of, set_checks, see_set};
 ghost use Rattle.vlog_tree.specs.Verifier.Verified.{targets, set_targets, signals_checks, ports_checks, end_check, assignments_checks, resets_checks, clocks_checks, set_literals, module_literals, literals_checks};

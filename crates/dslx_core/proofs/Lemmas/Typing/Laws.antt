@@ -2,6 +2,8 @@
 -- crates' proofs; nothing else of this folder is.
 -- recursion between items
 pub mod Chains
+-- reaching, and ranks
+pub mod Reaching
 pub use Rattle.dslx_core.proofs.OnTyping.OnLaws.Typed.{and_true, unbroken, both_unbroken, AreBits, is_bits_value, is_unsigned_value, is_bits_type, some_typed, binary_typed, prefix_typed, cast_typed}
 pub use Rattle.dslx_core.proofs.OnTyping.OnLaws.Free.{value_depends, written_type_depends, pattern_depends, bound_alike}
 pub use Rattle.dslx_core.proofs.OnTyping.OnLaws.Agreeing.{NamesAgree, Extend, FitAlike, unchanged}

@@ -9,4 +9,4 @@ pub use Rattle.dslx_core.proofs.OnTyping.OnSound.OfConstants.{bound_has, constan
 pub use Rattle.dslx_core.proofs.OnTyping.OnSound.OfControl.{bound_known}
 pub use Rattle.dslx_core.proofs.OnTyping.OnSound.Joined.{argument_gives, block_of_text_has, expression_gives, expression_has, pattern_gives, statement_gives, type_has_den}
 pub use Rattle.dslx_core.proofs.OnTyping.OnSound.Bodies.{function_has_size, function_has_value}
-pub use Rattle.dslx_core.proofs.OnTyping.OnSound.Trees.{HoldOn, TreeClaims, held, held_tree, holds_block, holds_expr, holds_pattern, holds_type_expr, own_expr, paired, pairing}
+pub use Rattle.dslx_core.proofs.OnTyping.OnSound.Trees.{HoldOn, TreeClaims, held, held_tree, holds_block, holds_expr, holds_pattern, holds_type_expr, own_block, own_expr, own_pattern, own_type_expr, paired, pairing}

@@ -339,3 +339,12 @@ module _ (s : Sorts) (steps : Recursion s) where
 
   pub own_expr : (e : Expr) → (fold_expr (paired s) (pairing s steps) e).0 ≡ e
   own_expr = holds_expr own own_on
+
+  pub own_block : (b : Block) → (fold_block (paired s) (pairing s steps) b).0 ≡ b
+  own_block = holds_block own own_on
+
+  pub own_pattern : (p : Pattern) → (fold_pattern (paired s) (pairing s steps) p).0 ≡ p
+  own_pattern = holds_pattern own own_on
+
+  pub own_type_expr : (t : TypeExpr) → (fold_type_expr (paired s) (pairing s steps) t).0 ≡ t
+  own_type_expr = holds_type_expr own own_on

@@ -40,7 +40,7 @@ use Rattle.dslx_meaning.specs.declared.value.DslxValue.{DslxValue}
 use Rattle.dslx_meaning.specs.Rules.ItemRules.{ConstantFound, annotation_typing, base_if_bits, fields_found, typing_of_type, member_constant, members_found, only_faults, arguments_found, arguments_typed, body_typing, bound_with, default_found, function_seen, function_type_env, item_type_env, typing_of_inner, number_at, parametric_args_behind, parametrics_found, result_typing}
 use Rattle.dslx_meaning.specs.Rules.TypeEnvs.{ExprPair, Instance, GlobalEnv, TypeEnv, alone, untyped_of, breaks, breaks_if, reached_of_all, span_of, with_typed, within}
 use Rattle.dslx_meaning.specs.Rules.Mentions.{arg_if, ends_mentions, config_statement_mentions, mention, mentioned_in_arg, proc_mentions, Use, AsFunction, AsEnum, AsPattern, AsProc, AsStruct, AsType, AsValue, Mention, definition_mentions, expr_if, field_names, fields_mentions, is_of_use, mentioned, mentioned_in_block, mentioned_in_type, mentions_of, names_mentioned, parametric_names, parametrics_mentions, type_if, is_cyclic}
-use Rattle.dslx_meaning.specs.Rules.ModuleRules.{BehindParametrics, behind_next, behind_values, default_if, default_known, default_seen, parameter_seen, parametrics_of, found_of_instance, found_of_item, item_found, no_globals, globals_over, globals_within}
+use Rattle.dslx_meaning.specs.Rules.ModuleRules.{BehindParametrics, behind_next, behind_values, default_if, default_known, default_seen, parameter_seen, parametrics_of, found_of_instance, found_of_item, item_found, globals_over, globals_within}
 use Rattle.dslx_meaning.specs.Rules.NodeRules.{arg_pair, expr_pair}
 use Rattle.dslx_core.specs.Typing.TypingRelations.Reached.{AllNamed, DeclarationReaches, InstancesReach, IsClosed, MentionReaches, MentionsReach}
 use Rattle.dslx_core.proofs.OnTyping.OnTyping.Joined.{argument_reaches, block_of_text_reaches, expression_reaches, written_type_reaches}

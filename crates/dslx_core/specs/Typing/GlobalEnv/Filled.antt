@@ -1,5 +1,6 @@
 -- The global environment of items whose names pass a test, with something else in the place of all other items.
 use Rattle.std.specs.Prelude.{ℕ, List, [], ◌∷◌, ◌&&◌, map, Bool, false, Option, Some, None, if◌then◌else◌}
+use Rattle.xb_span.specs.Spans.{nowhere}
 use Rattle.xb_bits.specs.Word.{word}
 use Rattle.dslx_tree.specs.declared.item.Definition.{Definition}
 use Rattle.dslx_tree.specs.declared.item.Definition.TheVariants as d
@@ -11,7 +12,7 @@ use Rattle.dslx_meaning.specs.declared.value.DslxValue.{DslxValue}
 use Rattle.dslx_meaning.specs.declared.value.DslxValue as value
 use Rattle.dslx_meaning.specs.Rules.ConstantRules.{untyped_typing}
 use Rattle.dslx_meaning.specs.Rules.TypeEnvs.{Judgement, GlobalEnv, Signature, breaks}
-use Rattle.dslx_meaning.specs.Rules.ModuleRules.{no_signature, nowhere}
+use Rattle.dslx_meaning.specs.Rules.ModuleRules.{no_signature}
 
 -- a struct whose fields are bits of one width
 abbrev pub filler_struct : ℕ → StructItem → DslxType

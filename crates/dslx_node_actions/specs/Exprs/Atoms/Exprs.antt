@@ -1,10 +1,11 @@
 -- An expression and its span on the stacks.
 use Rattle.std.specs.Prelude.{drop}
 use Rattle.xb_span.specs.declared.span.Span.{Span}
+use Rattle.xb_span.specs.Spans.{nowhere}
 use Rattle.dslx_tree.specs.declared.expr.Expr.{Expr, roll-Expr}
 use Rattle.dslx_tree.specs.declared.expr.Node.{Node}
 use Rattle.dslx_actions.specs.declared.parts.SemanticStacks.{SemanticStacks}
-use Rattle.dslx_actions.specs.Empty.{no_expr, nowhere}
+use Rattle.dslx_actions.specs.Empty.{no_expr}
 use Rattle.base.specs.Stacks.Tops.{top_or}
 
 abbrev pub expr_at : Span → Node → Expr

@@ -1,6 +1,7 @@
 -- What the rules of operators and of what stands behind an atom make of the parts that their symbols left.
 use Rattle.std.specs.Prelude.{ℕ, zero, suc, List, [], ◌∷◌, ◌++◌, drop}
 use Rattle.xb_span.specs.declared.span.Span.{Span}
+use Rattle.xb_span.specs.Spans.{nowhere}
 use Rattle.dslx_tree.specs.declared.expr.Expr.{Expr}
 use Rattle.dslx_tree.specs.declared.expr.Node as nodes
 use Rattle.dslx_tree.specs.declared.operator.Binary.{Binary}
@@ -12,7 +13,7 @@ use Rattle.dslx_tree.specs.declared.operators.chain.Operand.{Operand}
 use Rattle.dslx_tree.specs.Operators.Levels.{tree_of}
 use Rattle.dslx_actions.specs.declared.parts.SemanticStacks.{SemanticStacks}
 use Rattle.dslx_actions.specs.Common.{across}
-use Rattle.dslx_actions.specs.Empty.{join, no_digits, no_expr, no_ident, no_type, nowhere}
+use Rattle.dslx_actions.specs.Empty.{join, no_digits, no_expr, no_ident, no_type}
 use Rattle.base.specs.Stacks.Tops.{top_or}
 use Rattle.dslx_node_actions.specs.Exprs.Atoms.Exprs.{expr_at, first_expr, first_span, second_expr, second_span, third_expr, third_span}
 

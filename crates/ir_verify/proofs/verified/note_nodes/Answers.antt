@@ -1,7 +1,8 @@
 use Rattle.std.proofs.Common.{◌<◌, [], length, get_or, ap, ◌∙◌, arith}
+use Rattle.xb_span.specs.Spans.{nowhere}
 use Rattle.ir_verify.specs.Checks.{noted}
 use Rattle.ir_verify.specs.Lines.{node_checks}
-use Rattle.ir_verify.specs.Verified.{nodes_checks, seen_after, nowhere}
+use Rattle.ir_verify.specs.Verified.{nodes_checks, seen_after}
 use Rattle.ir_verify.specs.Inner.Scopes.{seen_by}
 use Rattle.ir_verify.proofs.Walks.{nodes_step, seen_step}
 use Rattle.ir_verify.proofs.verified.note_nodes.Goals as goal

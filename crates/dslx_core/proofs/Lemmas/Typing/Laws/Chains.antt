@@ -14,14 +14,14 @@ use Rattle.dslx_core.specs.Typing.Laws.Recursion.{HasNoCycle}
 
 -- ---- tests of lists
 
-or_first : (p q : Bool) → p ≡ true → (p || q) ≡ true
+pub or_first : (p q : Bool) → p ≡ true → (p || q) ≡ true
 or_first p q e = ap (λ t. t || q) e
 
-or_second : (p q : Bool) → q ≡ true → (p || q) ≡ true
+pub or_second : (p q : Bool) → q ≡ true → (p || q) ≡ true
 or_second true q e = refl
 or_second false q e = e
 
-or_cases : {X : Type 0} (p q : Bool) → (p || q) ≡ true → (p ≡ true → X) → (q ≡ true → X) → X
+pub or_cases : {X : Type 0} (p q : Bool) → (p || q) ≡ true → (p ≡ true → X) → (q ≡ true → X) → X
 or_cases true q e f g = f refl
 or_cases false q e f g = g e
 
@@ -30,10 +30,10 @@ any_weaker : {X : Type 0} (f g : X → Bool) (xs : List X) → ((x : X) → f x 
 any_weaker f g [] h e = e
 any_weaker f g (x ∷ xs) h e = or_cases (f x) (list_any f xs) e (λ q. or_first (g x) (list_any g xs) (h x q)) (λ q. or_second (g x) (list_any g xs) (any_weaker f g xs h q))
 
-same_name : (x y : List ℕ) → bytes_eq x y ≡ true → x ≡ y
+pub same_name : (x y : List ℕ) → bytes_eq x y ≡ true → x ≡ y
 same_name x y e = (bytes_eq-Decides x y).0 e
 
-itself : (x : List ℕ) → bytes_eq x x ≡ true
+pub itself : (x : List ℕ) → bytes_eq x x ≡ true
 itself x = (bytes_eq-Decides x x).1 refl
 
 turned : (x y : List ℕ) → bytes_eq x y ≡ true → bytes_eq y x ≡ true
@@ -54,14 +54,14 @@ of_each P (x ∷ xs) h = (h x (or_first (bytes_eq x x) (list_any (bytes_eq x) xs
 
 -- ---- items
 
-abbrev item_names : List Item → List (List ℕ)
+abbrev pub item_names : List Item → List (List ℕ)
 item_names is = map (λ (i : Item). name_of_definition i.definition) is
 
 -- an item has this name
-abbrev IsItem : Module → List ℕ → Type 0
+abbrev pub IsItem : Module → List ℕ → Type 0
 IsItem m name = IsIn name (item_names m.items)
 
-item_listed : (is : List Item) (name : List ℕ) (u : Use) → is_of_use u (item_named name is) ≡ true → IsIn name (item_names is)
+pub item_listed : (is : List Item) (name : List ℕ) (u : Use) → is_of_use u (item_named name is) ≡ true → IsIn name (item_names is)
 item_listed [] name AsValue e = absurd (true≢false (sym e))
 item_listed [] name AsPattern e = absurd (true≢false (sym e))
 item_listed [] name AsType e = absurd (true≢false (sym e))
@@ -87,7 +87,7 @@ denoted_is_item m (n ∷ ns) name e = pick (is_of_use n.use_as (item_named n.nam
         (λ s. subst (λ z. IsItem m z) (sym (same_name name n.name s)) (item_listed m.items n.name n.use_as q)) rest
     pick false q e rest = rest e
 
-mentioned_is_item : (m : Module) (d : Option Definition) (name : List ℕ) → IsIn name (mentions_of m d) → IsItem m name
+pub mentioned_is_item : (m : Module) (d : Option Definition) (name : List ℕ) → IsIn name (mentions_of m d) → IsItem m name
 mentioned_is_item m None name e = absurd (true≢false (sym e))
 mentioned_is_item m (Some d) name e = denoted_is_item m (definition_mentions d) name e
 
@@ -103,12 +103,12 @@ reaches_more m (suc n) a b e =
     any_weaker (λ next. bytes_eq next b || reaches_within m n next b) (λ next. bytes_eq next b || reaches_within m (suc n) next b) (mentions_of m (item_named a m.items))
     (λ x q. or_cases (bytes_eq x b) (reaches_within m n x b) q (or_first (bytes_eq x b) (reaches_within m (suc n) x b)) (λ s. or_second (bytes_eq x b) (reaches_within m (suc n) x b) (reaches_more m n x b s))) e
 
-reaches_up : (m : Module) (k n : ℕ) (a b : List ℕ) → reaches_within m n a b ≡ true → reaches_within m (k + n) a b ≡ true
+pub reaches_up : (m : Module) (k n : ℕ) (a b : List ℕ) → reaches_within m n a b ≡ true → reaches_within m (k + n) a b ≡ true
 reaches_up m zero n a b e = let q : zero + n ≡ n = omega arith in subst (λ j. reaches_within m j a b ≡ true) (sym q) e
 reaches_up m (suc k) n a b e = let q : suc k + n ≡ suc (k + n) = omega arith in subst (λ j. reaches_within m j a b ≡ true) (sym q) (reaches_more m (k + n) a b (reaches_up m k n a b e))
 
 -- what is mentioned is reached
-reaches_next : (m : Module) (n : ℕ) (a b : List ℕ) → MentionsItem m a b → reaches_within m (suc n) a b ≡ true
+pub reaches_next : (m : Module) (n : ℕ) (a b : List ℕ) → MentionsItem m a b → reaches_within m (suc n) a b ≡ true
 reaches_next m n a b e =
     any_weaker (bytes_eq b) (λ next. bytes_eq next b || reaches_within m n next b) (mentions_of m (item_named a m.items)) (λ x q. or_first (bytes_eq x b) (reaches_within m n x b) (turned b x q)) e
 
@@ -155,11 +155,11 @@ not_among m free (v ∷ vs) n k name s h e =
     (λ q. never_itself m free n k name s (subst (λ z. reaches_within m n z name ≡ true) (sym (same_name name v q)) h.0)) (not_among m free vs n k name s h.1)
 
 -- the names without the first that is this one
-abbrev without : List ℕ → List (List ℕ) → List (List ℕ)
+abbrev pub without : List ℕ → List (List ℕ) → List (List ℕ)
 without name [] = []
 without name (n ∷ ns) = if bytes_eq name n then ns else n ∷ without name ns
 
-one_fewer : (name : List ℕ) (ns : List (List ℕ)) → IsIn name ns → suc (length (without name ns)) ≡ length ns
+pub one_fewer : (name : List ℕ) (ns : List (List ℕ)) → IsIn name ns → suc (length (without name ns)) ≡ length ns
 one_fewer name [] e = absurd (true≢false (sym e))
 one_fewer name (n ∷ ns) e = pick (bytes_eq name n) e (one_fewer name ns)
   where
@@ -179,7 +179,7 @@ others_stay name z (n ∷ ns) q e = pick (bytes_eq name n) refl (others_stay nam
     pick false s rest =
         or_cases (bytes_eq z n) (list_any (bytes_eq z) ns) e (or_first (bytes_eq z n) (list_any (bytes_eq z) (without name ns))) (λ r. or_second (bytes_eq z n) (list_any (bytes_eq z) (without name ns)) (rest r))
 
-cover_moves : (name z : List ℕ) (trail left : List (List ℕ)) → IsIn z trail ⊎ IsIn z left → IsIn z (name ∷ trail) ⊎ IsIn z (without name left)
+pub cover_moves : (name z : List ℕ) (trail left : List (List ℕ)) → IsIn z trail ⊎ IsIn z left → IsIn z (name ∷ trail) ⊎ IsIn z (without name left)
 cover_moves name z trail left (inl e) = inl (or_second (bytes_eq z name) (list_any (bytes_eq z) trail) e)
 cover_moves name z trail left (inr e) = pick (bytes_eq z name) refl
   where

@@ -1,5 +1,5 @@
 use Rattle.std.proofs.Common.{subst, ap, ◌∙◌, get_or}
-use Rattle.vlog_tree.specs.Verifier.WithSpans.{nowhere}
+use Rattle.xb_span.specs.Spans.{nowhere}
 use Rattle.vlog_tree.specs.Verifier.Inner.Firsts.{IsFirstLoop}
 use Rattle.vlog_tree.proofs.OnVerifier.Judging.{verdict_free, verdict_looped}
 use Rattle.vlog_tree.proofs.verifier.verified.first_fault.Goals as goal

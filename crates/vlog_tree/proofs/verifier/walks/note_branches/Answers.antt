@@ -1,5 +1,5 @@
 use Rattle.std.proofs.Common.{◌≡◌, ◌++◌, ℕ, [], length, get_or, sym, ap, ◌∙◌, subst, true, false}
-use Rattle.vlog_tree.specs.Verifier.WithSpans.{nowhere}
+use Rattle.xb_span.specs.Spans.{nowhere}
 use Rattle.vlog_tree.specs.Verifier.Checks.{noted, walk}
 use Rattle.vlog_tree.specs.Verifier.Parts.{count_of, set_checks, see_set}
 use Rattle.vlog_tree.specs.Verifier.Verified.{set_targets, resets_checks, clocks_checks}

@@ -1,6 +1,6 @@
 use Rattle.std.proofs.Common.{◌≡◌, ◌-◌, ◌∷◌, [], length, get_or, sym, ap, ◌∙◌, arith}
 use Rattle.std.specs.Prelude.{not}
-use Rattle.vlog_tree.specs.Verifier.WithSpans.{nowhere}
+use Rattle.xb_span.specs.Spans.{nowhere}
 use Rattle.vlog_tree.specs.Verifier.Checks.{noted, walk, seen_after, rule_at}
 use Rattle.vlog_tree.specs.Verifier.Ports.{Clock, due_behind, may_end}
 use Rattle.vlog_tree.specs.Verifier.Parts.{port_checks}

@@ -1,5 +1,5 @@
 use Rattle.std.proofs.Common.{◌≡◌, drop, get_or}
-use Rattle.vlog_tree.specs.Verifier.WithSpans.{nowhere}
+use Rattle.xb_span.specs.Spans.{nowhere}
 use Rattle.vlog_tree.specs.Verifier.Checks.{noted, walk, seen_after}
 use Rattle.vlog_tree.specs.Verifier.Ports.{Clock, due_behind}
 use Rattle.vlog_tree.specs.Verifier.Parts.{port_checks}
