@@ -2,3 +2,7 @@
 pub mod OnCount
 -- families
 pub mod OnFamily
+-- bodies
+pub mod OnBody
+-- checked texts that are made
+pub mod OnLinked

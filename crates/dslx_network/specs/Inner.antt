@@ -2,3 +2,5 @@
 pub mod Counts
 -- procs that are still to be elaborated
 pub mod Pending
+-- what one step of a walk does
+pub mod Walking

@@ -4,7 +4,7 @@ ghost use Rattle.std.specs.Prelude.{◌≡◌, ◌≤◌, ◌<◌, ◌^◌, ◌+
 ghost use Rattle.dslx_core.specs.Designs.{made_of};
 ghost use Rattle.dslx_core.specs.declared.design.Instance.{Instance};
 ghost use Rattle.dslx_network.specs.Linked.{AllBelow, AreChildren, IsLinkedInstance};
-ghost use Rattle.dslx_network.specs.Inner.Pending.{ArePending, IsPending, all_procs, all_chans, child_pending, children_pending, own_head};
+ghost use Rattle.dslx_network.specs.Inner.Pending.{ArePending, IsPending, all_procs, all_chans, all_instances, child_pending, children_pending, own_head};
 
 use crate::channels::{channels_of_ends, push_made};
 use crate::heads::head_of;
@@ -19,6 +19,8 @@ use xb_value::Seq;
 #[derive(Drop)]
 pub(crate) struct Family {
     pub(crate) procs: Vec<ProcHead>,
+    /// The number of each proc's instance.
+    pub(crate) instances: Vec<u64>,
     pub(crate) chans: Vec<Chan>,
 }
 
@@ -43,6 +45,7 @@ pub(crate) fn place_all(
     requires count { length (all_procs instances.now family.old pending.old) ≡ length family.old.procs.items + count }
     requires few { length (all_chans instances.now family.old pending.old) ≤ 1024 }
     ensures procs { OnOk result (family.new.procs.items ≡ all_procs instances.now family.old pending.old) }
+    ensures instances { OnOk result (map (slice_get instances.now) family.new.instances.items ≡ all_instances instances.now family.old pending.old) }
     ensures chans { OnOk result (family.new.chans.items ≡ all_chans instances.now family.old pending.old) }
 {
     'procs: for _ in 0..count {
@@ -66,6 +69,7 @@ fn place_one(
     requires pending { ArePending instances.now (length family.old.chans.items) pending.old }
     requires few { length (all_chans instances.now family.old (next ∷ pending.old)) ≤ 1024 }
     ensures procs { OnOk result (all_procs instances.now family.new pending.new ≡ all_procs instances.now family.old (next ∷ pending.old)) }
+    ensures instances { OnOk result (all_instances instances.now family.new pending.new ≡ all_instances instances.now family.old (next ∷ pending.old)) }
     ensures chans { OnOk result (all_chans instances.now family.new pending.new ≡ all_chans instances.now family.old (next ∷ pending.old)) }
     ensures one { OnOk result (length family.new.procs.items ≡ length family.old.procs.items + 1) }
     ensures pending { OnOk result (ArePending instances.now (length family.new.chans.items) pending.new) }
@@ -88,6 +92,7 @@ fn place_own(
     requires few { length family.old.chans.items + length instance.now.made ≤ 1024 }
     ensures number { IfOk result (λ number. number ≡ length family.old.chans.items) }
     ensures procs { OnOk result (family.new.procs.items ≡ family.old.procs.items ++ own_head next.now instance.now (length family.old.chans.items) ∷ []) }
+    ensures instances { OnOk result (family.new.instances.items ≡ family.old.instances.items ++ next.now.instance ∷ []) }
     ensures chans { OnOk result (family.new.chans.items ≡ family.old.chans.items ++ map (made_of next.now.path) instance.now.made) }
 {
     let number = family.chans.len() as u64;
@@ -101,6 +106,7 @@ fn place_own(
         &mut family.chans,
     )?;
     family.procs.push(head)?;
+    family.instances.push(next.instance)?;
     Ok(number)
 }
 

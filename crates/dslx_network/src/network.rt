@@ -1,9 +1,10 @@
 //! The network of a checked text, or the limit that it passes.
 
-ghost use Rattle.std.specs.Prelude.{◌≡◌, ◌⊎◌, ◌≤◌, Some, None, length, IfOk, IfErr};
+ghost use Rattle.std.specs.Prelude.{◌≡◌, ◌⊎◌, ◌≤◌, Some, None, length, map, slice_get, IfOk, IfErr};
 ghost use Rattle.xb_span.specs.declared.read_error.ReadError.TheVariants.{OutOfMemory, Over};
 ghost use Rattle.xb_span.specs.declared.limit.Limit.{Limit};
-ghost use Rattle.dslx_core.specs.Designs.{core_network, last_index, numbers_from};
+ghost use Rattle.dslx_core.specs.Designs.{core_family, core_network, last_index, numbers_from};
+ghost use Rattle.dslx_network.specs.Bodies.{own_instance};
 ghost use Rattle.dslx_network.specs.Limits.{limit_passed, network_limit};
 ghost use Rattle.dslx_network.specs.Linked.{IsLinked};
 ghost use Rattle.dslx_network.specs.Inner.Pending.{first_pending};
@@ -18,13 +19,21 @@ use std::alloc::{AllocError, Global};
 use xb_span::{Limit, ReadError, What};
 use xb_value::Seq;
 
+/// A network, with the number of each proc's instance in the checked text.
+#[derive(Drop)]
+pub struct Elaborated {
+    pub net: Net,
+    pub instances: Vec<u64>,
+}
+
 /// The network of a checked text.
 ///
 /// One of more than 256 procs is refused, and else one of more than 1,024 channels, outer and inner.
-pub fn elaborate(alloc: Global, design: &Design) -> Result<Net, ReadError>
+pub fn elaborate(alloc: Global, design: &Design) -> Result<Elaborated, ReadError>
     requires { IsLinked design.now }
-    ensures net { IfOk result (λ net. net ≡ core_network design.now) }
-    ensures within { IfOk result (λ net. network_limit net ≡ None) }
+    ensures net { IfOk result (λ made. made.net ≡ core_network design.now) }
+    ensures instances { IfOk result (λ made. map (slice_get design.now.procs) made.instances.items ≡ map own_instance (core_family design.now).procs) }
+    ensures within { IfOk result (λ made. network_limit made.net ≡ None) }
     ensures refused { IfErr result (λ e. (e ≡ OutOfMemory) ⊎ ((l : Limit) × (network_limit (core_network design.now) ≡ Some l) × (e ≡ Over l))) }
 {
     let instances = design.procs.as_slice();
@@ -60,26 +69,33 @@ fn limit_passed(procs: u64, chans: u64) -> Option<Limit>
 }
 
 /// The network, which has so many procs.
-fn made(alloc: Global, design: &Design, top: u64, count: u64) -> Result<Net, AllocError>
+fn made(alloc: Global, design: &Design, top: u64, count: u64) -> Result<Elaborated, AllocError>
     requires linked { IsLinked design.now }
     requires top { top ≡ last_index design.now.procs }
     requires count { length (core_network design.now).procs ≡ count }
     requires few { length (core_network design.now).chans ≤ 1024 }
-    ensures { IfOk result (λ net. net ≡ core_network design.now) }
+    ensures net { IfOk result (λ made. made.net ≡ core_network design.now) }
+    ensures instances { IfOk result (λ made. map (slice_get design.now.procs) made.instances.items ≡ map own_instance (core_family design.now).procs) }
 {
     let mut family = Family {
         procs: Vec::new(alloc),
+        instances: Vec::new(alloc),
         chans: outer_chans(alloc, design.outer.as_slice())?,
     };
     let mut pending = first_pending(alloc, design, top)?;
     let instances = design.procs.as_slice();
     place_all(alloc, instances, count, &mut pending, &mut family)?;
-    let Family { procs, chans } = family;
-    Ok(Net {
+    let Family {
+        procs,
+        instances,
+        chans,
+    } = family;
+    let net = Net {
         name: name_copy(alloc, &design.name)?,
         procs: Seq::from_vec(procs),
         chans: Seq::from_vec(chans),
-    })
+    };
+    Ok(Elaborated { net, instances })
 }
 
 /// The top on a stack, where there is one.

@@ -1,5 +1,5 @@
 -- Families of instances, and of procs that are pending.
-use Rattle.std.proofs.Common.{◌≡◌, ◌++◌, ◌+◌, ◌==◌, ◌≤◌, ◌<◌, ℕ, zero, suc, Bool, true, false, if◌then◌else◌, List, [], ◌∷◌, length, take, map, Some, refl, sym, ap, ◌∙◌, arith, append_assoc}
+use Rattle.std.proofs.Common.{◌≡◌, ◌++◌, ◌+◌, ◌==◌, ◌≤◌, ◌<◌, ℕ, zero, suc, Bool, true, false, if◌then◌else◌, List, [], ◌∷◌, length, take, map, Option, Some, refl, sym, ap, ◌∙◌, arith, append_assoc}
 use Rattle.std.specs.Prelude.{slice_get, nat_lt}
 use Rattle.std.proofs.lemmas.Bool.{ltb-true, ltb-false}
 use Rattle.std.proofs.lemmas.Bool.Decides.{Decides-eqb}
@@ -15,9 +15,11 @@ use Rattle.dslx_core.proofs.Lemmas.Lowering.{not_the_end}
 use Rattle.dslx_core.specs.Designs.{chan_of_outer, core_chans, core_family, core_network, last_index, numbers_from}
 use Rattle.dslx_core.specs.declared.design.Design.{Design}
 use Rattle.net_core.specs.declared.net.Net.{Net}
-use Rattle.dslx_network.specs.Inner.Pending.{ArePending, all_chans, all_procs, children_pending, child_pending, first_pending, own_head, pending_family, placing, top_of}
+use Rattle.dslx_network.specs.Inner.Pending.{ArePending, all_chans, all_instances, all_procs, children_pending, child_pending, first_pending, own_head, pending_family, placing, top_of}
+use Rattle.dslx_network.specs.Bodies.{own_instance}
 use Rattle.dslx_network.specs.declared.family.Family.{Family}
 use Rattle.dslx_network.specs.declared.family.Pending.{Pending}
+use Rattle.dslx_network.proofs.OnBody.Numbers.{map_one_more}
 
 -- ---- families together
 
@@ -213,6 +215,24 @@ placed_chans is p ps qs i old new there chans behind =
     ∙ ap (λ m. own ++ (pending_family is starts m).chans) (channels_then p i old.chans.items new.chans.items chans)
     ∙ sym (chans_stay is p ps i number there old.chans.items)
 
+pub placed_instances : (is : List Instance) (p : Pending) (ps qs : List Pending) (i : Instance) (old new : Family) → slice_get is p.instance ≡ Some i
+    → new.instances.items ≡ old.instances.items ++ p.instance ∷ []
+    → new.chans.items ≡ old.chans.items ++ map (made_of p.path) i.made
+    → qs ≡ children_pending p.path p.instance p.given (length old.chans.items) 0 i.children ++ ps
+    → all_instances is new qs ≡ all_instances is old (p ∷ ps)
+placed_instances is p ps qs i old new there instances chans behind =
+    let number = length old.chans.items in
+    let starts = children_pending p.path p.instance p.given number 0 i.children ++ ps in
+    let rest = pending_family is starts (number + length i.made) in
+    let before = map (slice_get is) old.instances.items in
+    ap (all_instances is new) behind
+    ∙ ap (λ ns. map (slice_get is) ns ++ map own_instance (pending_family is starts (length new.chans.items)).procs) instances
+    ∙ ap (λ m. map (slice_get is) (old.instances.items ++ p.instance ∷ []) ++ map own_instance (pending_family is starts m).procs) (channels_then p i old.chans.items new.chans.items chans)
+    ∙ ap (λ xs. xs ++ map own_instance rest.procs) (map_one_more (slice_get is) old.instances.items p.instance)
+    ∙ append_assoc before (slice_get is p.instance ∷ []) (map own_instance rest.procs)
+    ∙ ap (λ o. before ++ o ∷ map own_instance rest.procs) there
+    ∙ ap (λ (f : CoreFamily). before ++ map own_instance f.procs) (sym (first_placed is p ps i number there))
+
 -- what is placed first takes no more than all
 pub own_fit : (is : List Instance) (p : Pending) (ps : List Pending) (i : Instance) (family : Family) (most : ℕ) → slice_get is p.instance ≡ Some i
     → length (all_chans is family (p ∷ ps)) ≤ most → length family.chans.items + length i.made ≤ most
@@ -239,6 +259,13 @@ all_placed is n family ps h count =
     let none : length rest.procs ≡ 0 = omega (arith, count, length-append family.procs.items (map core_head rest.procs), length-map rest.procs core_head) in
     ap (all_chans is family) (none_pending is n ps (length family.chans.items) h none) ∙ append-nil family.chans.items
 
+pub all_instances_placed : (is : List Instance) (n : ℕ) (family : Family) (ps : List Pending) → ArePending is n ps → length (all_procs is family ps) ≡ length family.procs.items
+    → all_instances is family ps ≡ map (slice_get is) family.instances.items
+all_instances_placed is n family ps h count =
+    let rest = pending_family is ps (length family.chans.items) in
+    let none : length rest.procs ≡ 0 = omega (arith, count, length-append family.procs.items (map core_head rest.procs), length-map rest.procs core_head) in
+    ap (all_instances is family) (none_pending is n ps (length family.chans.items) h none) ∙ append-nil (map (slice_get is) family.instances.items)
+
 -- the family of the top is the whole network's
 first_family : (design : Design) → pending_family design.procs (first_pending design) (length design.outer) ≡ core_family design
 first_family design = of_procs design.procs refl
@@ -262,3 +289,14 @@ network_is design family ps name procs chans none outer first same_name same_pro
     let channels : chans ≡ core_chans design =
     same_chans ∙ ap (λ xs. xs ++ rest.chans) outer ∙ ap (λ (f : CoreFamily). map chan_of_outer design.outer ++ f.chans) all in
     λ i. record { name = same_name i; procs = heads i; chans = channels i }
+
+pub instances_are : (design : Design) (family : Family) (ps : List Pending) (instances : List (Option Instance))
+    → family.instances.items ≡ [] → family.chans.items ≡ map chan_of_outer design.outer → ps ≡ first_pending design
+    → instances ≡ all_instances design.procs family ps → instances ≡ map own_instance (core_family design).procs
+instances_are design family ps instances none outer first same =
+    let rest = pending_family design.procs ps (length family.chans.items) in
+    let all : rest ≡ core_family design =
+    ap (λ qs. pending_family design.procs qs (length family.chans.items)) first
+    ∙ ap (pending_family design.procs (first_pending design)) (ap length outer ∙ length-map design.outer chan_of_outer)
+    ∙ first_family design in
+    same ∙ ap (λ ns. map (slice_get design.procs) ns ++ map own_instance rest.procs) none ∙ ap (λ (f : CoreFamily). map own_instance f.procs) all

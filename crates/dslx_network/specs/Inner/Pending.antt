@@ -1,5 +1,5 @@
 -- Procs that are still to be elaborated.
-use Rattle.std.specs.Prelude.{◌≡◌, ℕ, suc, ◌+◌, nat_lt, List, [], ◌∷◌, ◌++◌, map, length, slice_get, Some, if◌then◌else◌}
+use Rattle.std.specs.Prelude.{◌≡◌, ℕ, suc, ◌+◌, nat_lt, List, [], ◌∷◌, ◌++◌, map, length, slice_get, Option, Some, if◌then◌else◌}
 use Rattle.net_core.specs.declared.net.Chan.{Chan}
 use Rattle.net_core.specs.declared.net.ProcHead.{ProcHead}
 use Rattle.dslx_meaning.specs.Network.{child_path}
@@ -9,6 +9,7 @@ use Rattle.dslx_core.specs.declared.design.Design.{Design}
 use Rattle.dslx_core.specs.declared.design.Instance.{Instance}
 use Rattle.dslx_network.specs.declared.family.Family.{Family}
 use Rattle.dslx_network.specs.declared.family.Pending.{Pending}
+use Rattle.dslx_network.specs.Bodies.{own_instance}
 use Rattle.dslx_network.specs.Linked.{AllBelow}
 
 -- the families of all instances
@@ -28,6 +29,10 @@ all_procs is family ps = family.procs.items ++ map core_head (pending_family is 
 
 abbrev pub all_chans : List Instance → Family → List Pending → List Chan
 all_chans is family ps = family.chans.items ++ (pending_family is ps (length family.chans.items)).chans
+
+-- the instances of all procs, by the numbers of those that are elaborated
+abbrev pub all_instances : List Instance → Family → List Pending → List (Option Instance)
+all_instances is family ps = map (slice_get is) family.instances.items ++ map own_instance (pending_family is ps (length family.chans.items)).procs
 
 abbrev pub child_pending : List ℕ → List ℕ → ℕ → ℕ → Child → Pending
 child_pending path given number n c = record { path = child_path path n; instance = c.instance; given = map (channel_of_end given number) c.ends }

@@ -1,5 +1,5 @@
 use Rattle.std.proofs.Common.{◌≡◌, ◌+◌, length}
-use Rattle.dslx_network.specs.Inner.Pending.{ArePending, all_procs, all_chans}
+use Rattle.dslx_network.specs.Inner.Pending.{ArePending, all_procs, all_chans, all_instances}
 use Rattle.dslx_network.proofs.family.place_all.Given as goal
 
 abbrev pub invariant-procs : goal.invariant-procs
@@ -8,3 +8,4 @@ invariant-procs l =
     × (all_chans l.instances l.family l.pending ≡ all_chans l.instances l.initial.family l.initial.pending)
     × ArePending l.instances (length l.family.chans.items) l.pending
     × (length l.family.procs.items ≡ length l.initial.family.procs.items + l.counter)
+    × (all_instances l.instances l.family l.pending ≡ all_instances l.instances l.initial.family l.initial.pending)

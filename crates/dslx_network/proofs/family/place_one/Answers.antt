@@ -2,7 +2,7 @@ use Rattle.std.proofs.Common.{◌≡◌, ◌+◌, ◌++◌, ◌∙◌, length, a
 use Rattle.dslx_network.specs.Linked.{AreChildren}
 use Rattle.dslx_network.specs.Inner.Pending.{ArePending, children_pending}
 use Rattle.dslx_network.proofs.OnFamily.Bounds.{children_are_pending, children_linked, found_at, pending_joined, pending_more}
-use Rattle.dslx_network.proofs.OnFamily.Families.{channels_then, own_fit, placed_chans, placed_procs}
+use Rattle.dslx_network.proofs.OnFamily.Families.{channels_then, own_fit, placed_chans, placed_instances, placed_procs}
 use Rattle.dslx_network.proofs.family.place_one.Goals as goal
 
 pub place_own-requires-clause-few : goal.place_own-requires-clause-few
@@ -31,6 +31,19 @@ returns-clause-procs c =
     ∙ ap (λ cs. children_pending next.path next.instance next.given c.in_ok-number.number 0 cs ++ c.args.pending.now) c.as_slice.ensures
     ∙ ap (λ n. children_pending next.path next.instance next.given n 0 i.children ++ c.args.pending.now) c.in_ok-number.ensures.number in
     placed_procs is next c.args.pending.now c.push_children.new.pending i c.args.family.now c.place_own.new.family there c.in_ok-number.ensures.procs c.in_ok-number.ensures.chans behind
+
+pub returns-clause-instances : goal.returns-clause-instances
+returns-clause-instances c =
+    let is = c.args.instances.now in
+    let i = c.index-instances-next.result in
+    let next = c.args.next in
+    let number = length c.args.family.now.chans.items in
+    let there = found_at is next.instance c.requires.next.instance i c.requires.next.there c.index-instances-next.is in
+    let behind : c.push_children.new.pending ≡ children_pending next.path next.instance next.given number 0 i.children ++ c.args.pending.now =
+    c.in_ok-push_children.ensures
+    ∙ ap (λ cs. children_pending next.path next.instance next.given c.in_ok-number.number 0 cs ++ c.args.pending.now) c.as_slice.ensures
+    ∙ ap (λ n. children_pending next.path next.instance next.given n 0 i.children ++ c.args.pending.now) c.in_ok-number.ensures.number in
+    placed_instances is next c.args.pending.now c.push_children.new.pending i c.args.family.now c.place_own.new.family there c.in_ok-number.ensures.instances c.in_ok-number.ensures.chans behind
 
 pub returns-clause-chans : goal.returns-clause-chans
 returns-clause-chans c =

@@ -65,4 +65,4 @@ returns-clause-within c =
     let limits : limit_passed count.procs c.saturating_add-chans.result ≡ network_limit (core_network design) =
     limit_counted design count.procs c.saturating_add-chans.result (ap (λ (n : Count). n.procs) counted) chans in
     let none : network_limit (core_network design) ≡ None = sym limits ∙ sym c.limit_passed.ensures ∙ c.in_default.is in
-    ap network_limit c.in_ok-made.ensures ∙ none
+    ap network_limit c.in_ok-made.ensures.net ∙ none

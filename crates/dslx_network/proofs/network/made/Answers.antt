@@ -1,10 +1,11 @@
 use Rattle.std.proofs.Common.{◌≡◌, ◌∙◌, length, ap, sym, subst, map}
+use Rattle.std.specs.Prelude.{slice_get}
 use Rattle.std.proofs.lemmas.List.{length-map}
 use Rattle.dslx_core.specs.Designs.{chan_of_outer}
-use Rattle.dslx_network.specs.Inner.Pending.{ArePending, all_chans, all_procs}
+use Rattle.dslx_network.specs.Inner.Pending.{ArePending, all_chans, all_instances, all_procs}
 use Rattle.dslx_network.specs.declared.family.Family.{Family}
 use Rattle.dslx_network.proofs.OnFamily.Bounds.{top_is_pending}
-use Rattle.dslx_network.proofs.OnFamily.Families.{network_is}
+use Rattle.dslx_network.proofs.OnFamily.Families.{instances_are, network_is}
 use Rattle.dslx_network.proofs.network.made.Goals as goal
 
 pub place_all-requires-clause-pending : goal.place_all-requires-clause-pending
@@ -18,11 +19,20 @@ place_all-requires-clause-pending c =
     subst (λ is. ArePending is (length chans) pending) (sym c.as_slice-instances.ensures)
     (subst (λ n. ArePending procs n pending) (sym count) (subst (ArePending procs (length c.args.design.now.outer)) (sym c.in_ok-pending.ensures) top))
 
-pub returns : goal.returns
-returns c =
-    let family : Family = record { procs = c.new.result; chans = c.in_ok-outer_chans.field-0 } in
+pub returns-clause-net : goal.returns-clause-net
+returns-clause-net c =
+    let family : Family = record { procs = c.new.result; instances = c.new-2.result; chans = c.in_ok-outer_chans.field-0 } in
     let pending = c.in_ok-pending.pending in
     let outer : c.in_ok-outer_chans.field-0.items ≡ map chan_of_outer c.args.design.now.outer = c.in_ok-outer_chans.ensures ∙ ap (map chan_of_outer) c.as_slice.ensures in
     network_is c.args.design.now family pending c.in_ok-name_copy.field-0 c.from_vec.result c.from_vec-2.result c.new.ensures.items outer c.in_ok-pending.ensures c.in_ok-name_copy.ensures
     (c.from_vec.ensures ∙ c.in_ok-place_all.ensures.procs ∙ ap (λ is. all_procs is family pending) c.as_slice-instances.ensures)
     (c.from_vec-2.ensures ∙ c.in_ok-place_all.ensures.chans ∙ ap (λ is. all_chans is family pending) c.as_slice-instances.ensures)
+
+pub returns-clause-instances : goal.returns-clause-instances
+returns-clause-instances c =
+    let design = c.args.design.now in
+    let family : Family = record { procs = c.new.result; instances = c.new-2.result; chans = c.in_ok-outer_chans.field-0 } in
+    let pending = c.in_ok-pending.pending in
+    let outer : c.in_ok-outer_chans.field-0.items ≡ map chan_of_outer design.outer = c.in_ok-outer_chans.ensures ∙ ap (map chan_of_outer) c.as_slice.ensures in
+    instances_are design family pending (map (slice_get design.procs) c.place_all.new.family.instances.items) c.new-2.ensures.items outer c.in_ok-pending.ensures
+    (ap (λ is. map (slice_get is) c.place_all.new.family.instances.items) (sym c.as_slice-instances.ensures) ∙ c.in_ok-place_all.ensures.instances ∙ ap (λ is. all_instances is family pending) c.as_slice-instances.ensures)
