@@ -3,7 +3,7 @@
 ghost use Rattle.std.specs.Prelude.{ℕ, ◌≡◌, ◌<◌, ◌^◌, Some, length, map, slice_get, IfOk, IsTrue};
 ghost use Rattle.std.specs.List.{list_all};
 ghost use Rattle.net_core.specs.WellFormed.{EachKeepsTypes};
-ghost use Rattle.dslx_core.specs.Designs.{core_behaviors, core_family};
+ghost use Rattle.dslx_core.specs.Designs.{CoreElaborated, core_behaviors, core_family};
 ghost use Rattle.dslx_core.specs.declared.design.Instance.{Instance};
 ghost use Rattle.dslx_network.specs.Bodies.{own_instance, receives_word};
 ghost use Rattle.dslx_network.specs.DslxBodies.{behavior_of};
@@ -19,7 +19,7 @@ pub fn bodies_of<'a>(
     instances: &[u64],
 ) -> Result<Vec<DslxBody<'a>>, AllocError>
     requires instances { map (slice_get design.now.procs) instances.now ≡ map own_instance (core_family design.now).procs }
-    requires words { (k : ℕ) (i : Instance) → slice_get design.now.procs k ≡ Some i → IsTrue (list_all receives_word i.steps) }
+    requires words { (k : ℕ) (p : CoreElaborated) → slice_get (core_family design.now).procs k ≡ Some p → IsTrue (list_all receives_word (p.instance).steps) }
     requires keep { EachKeepsTypes (core_behaviors design.now) }
     requires few { length instances.now < 2 ^ 32 }
     ensures { IfOk result (λ bodies. map behavior_of bodies.items ≡ core_behaviors design.now) }

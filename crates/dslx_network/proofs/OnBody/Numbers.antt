@@ -37,8 +37,11 @@ module _ (design : Design) (k n : ℕ) (found : Instance) (h : IsThere design.pr
   pub proc_found : proc_at design k found ≡ h.proc
   proc_found = got_there (core_family design).procs k h.proc (record { path = []; instance = found; channels = [] }) h.there
 
+  pub instance_is : (h.proc).instance ≡ found
+  instance_is = same_some (h.proc).instance found (sym h.instance ∙ at)
+
   pub instance_found : (proc_at design k found).instance ≡ found
-  instance_found = ap (λ (p : CoreElaborated). p.instance) proc_found ∙ same_some (h.proc).instance found (sym h.instance ∙ at)
+  instance_found = ap (λ (p : CoreElaborated). p.instance) proc_found ∙ instance_is
 
   pub behavior_found : slice_get (core_behaviors design) k ≡ Some (behavior_at design k found)
   behavior_found = map_at (core_behavior design) (core_family design).procs k h.proc h.there ∙ ap (λ p. Some (core_behavior design p)) (sym proc_found)
