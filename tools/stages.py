@@ -14,12 +14,15 @@ import re
 import sys
 from html import escape
 
+sys.dont_write_bytecode = True
 from fuzz_schedule import BY_RESULT, delay_of
 
-NODE = re.compile(r'\s+([a-z_]+)\.(\d+): (.+?) = [a-z_]+\((.*)\)\s*$')
-HEAD = re.compile(r'\s*proc (\w+)\(st: (.*), init=')
+# The head of a proc, and a node, whose `id` is its last attribute. White space is free.
+PART = re.compile(r"""\bproc\s+(?P<proc>[A-Za-z_][\w./]*)\s*\(\s*st\s*:\s*(?P<state>[^=]*?)\s*,\s*init\s*=
+    | (?P<op>[a-z_]+)\.(?P<id>\d+)\s*:\s*(?P<ty>[^=]*?)\s*=\s*(?P=op)\s*\((?P<inside>.*?)\bid\s*=\s*(?P=id)\s*\)""", re.X | re.S)
 STAGE = re.compile(r'  (\S+) (\d+)$')
-COLUMN, ROW, MARGIN, LABEL = 330, 18, 16, 190
+OPERANDS = ('predicate', 'default', 'cases', 'indices')
+COLUMN, ROW, MARGIN, LABEL, LETTER = 330, 18, 16, 190, 7
 
 
 class Node:
@@ -35,7 +38,7 @@ class Node:
 
 def width_of(ty):
     """The flat width of a type's text: bits[N], (T, ..), T[N], token."""
-    ty = ty.strip()
+    ty = ''.join(ty.split())
     array = re.fullmatch(r'(.*)\[(\d+)\]', ty)
     if array and array.group(1) != 'bits':
         return width_of(array.group(1)) * int(array.group(2))
@@ -55,21 +58,31 @@ def parts_of(text):
     return [it for it in parts + [text[start:]] if it.strip()]
 
 
+def operands_of(inside):
+    """What stands between a node's brackets: its operands, and all that it takes values from, those of attributes too."""
+    plain, more = [], []
+    for part in map(str.strip, parts_of(inside)):
+        key, equals, value = part.partition('=')
+        if not equals:
+            plain.append(part)
+        elif key.strip() in OPERANDS:
+            more += [it.strip() for it in value.strip(' []\n\t\r').split(',')]
+    return plain, plain + more
+
+
 def procs_of(text):
     """The procs of an IR text: each name with its nodes in line order."""
     procs, nodes, types = {}, [], {}
-    for line in text.split('\n'):
-        head, node = HEAD.match(line), NODE.match(line)
-        if head:
-            nodes = procs[head.group(1)] = []
-            types = {'st': head.group(2)}
-        elif node:
-            op, number, ty, arguments = node.groups()
-            names = [it for it in re.findall(r'[a-z_]+\.\d+|\bst\b', arguments) if it in types]
-            made = Node(op, f'{op}.{number}', [it for it in names if it != 'st'])
-            made.delay = delay_of(op, width_of(ty if op in BY_RESULT or not names else types[names[0]]))
+    for part in PART.finditer(re.sub(r'//[^\n]*', '', text)):
+        if part['proc']:
+            nodes = procs[part['proc']] = []
+            types = {'st': part['state']}
+        else:
+            plain, operands = operands_of(part['inside'])
+            made = Node(part['op'], f'{part["op"]}.{part["id"]}', [it for it in operands if it != 'st'])
+            made.delay = delay_of(made.op, width_of(part['ty'] if made.op in BY_RESULT or not plain else types[plain[0]]))
             nodes.append(made)
-            types[made.name] = ty
+            types[made.name] = part['ty']
     return procs
 
 
@@ -101,17 +114,23 @@ def time(nodes, stages):
                 by_name[it].behind = max(by_name[it].behind, node.delay + node.behind)
 
 
+def left_of(node, clock):
+    """Where a node's bar begins, and how wide it is."""
+    scale = (COLUMN - LABEL - MARGIN) / clock
+    return MARGIN + node.stage * COLUMN + node.before * scale, max(node.delay * scale, 2)
+
+
+def label(node, clock):
+    return f'{node.name}  {node.delay} ps, slack {node.slack(clock)}'
+
+
 def bar(node, row, clock):
     """A node in its row: its bar, and its name with its delay and slack."""
-    scale = (COLUMN - LABEL - MARGIN) / clock
-    x = MARGIN + node.stage * COLUMN + node.before * scale
+    x, wide = left_of(node, clock)
     y = 3 * MARGIN + row * ROW
-    wide = max(node.delay * scale, 2)
-    slack = node.slack(clock)
-    shade = 215 - round(175 * (1 - slack / clock))
-    text = f'{node.name}  {node.delay} ps' + (f', slack {slack}' if node.delay else '')
+    shade = 215 - round(175 * (1 - node.slack(clock) / clock))
     yield f'<rect x="{x:.1f}" y="{y}" width="{wide:.1f}" height="{ROW - 6}" fill="rgb({shade},{shade},235)" stroke="#446"/>'
-    yield f'<text x="{x + wide + 4:.1f}" y="{y + ROW - 8}">{escape(text)}</text>'
+    yield f'<text x="{x + wide + 4:.1f}" y="{y + ROW - 8}">{escape(label(node, clock))}</text>'
 
 
 def picture(head, nodes, clock, top):
@@ -127,14 +146,24 @@ def picture(head, nodes, clock, top):
     yield '</g>'
 
 
+def width_of_picture(head, nodes, clock):
+    """How wide a proc is, with what stands behind its bars."""
+    ends = [sum(left_of(node, clock)) + LETTER * len(label(node, clock)) for node in nodes]
+    return round(max([LETTER * len(f'{head}, clock {clock} ps'), *ends])) + 2 * MARGIN
+
+
 def svg(procs, schedules, clock):
     shapes, top, wide = [], 0, 0
     for head, stages in schedules:
-        nodes = procs[head.split(' ')[1]]
+        nodes = procs.get(head.split(' ')[1], [])
+        if [node.name for node in nodes] != list(stages):
+            sys.exit(f'{head}: the schedule is of another package')
         time(nodes, stages)
+        if any(node.slack(clock) < 0 for node in nodes):
+            sys.exit(f'{head}: the schedule is of a longer clock than {clock} ps')
         shapes += picture(head, nodes, clock, top)
         top += 4 * MARGIN + len(nodes) * ROW
-        wide = max(wide, 2 * MARGIN + (max(stages.values(), default=0) + 1) * COLUMN)
+        wide = max(wide, width_of_picture(head, nodes, clock))
     yield f'<svg xmlns="http://www.w3.org/2000/svg" width="{wide}" height="{top}" font-family="monospace" font-size="11">'
     yield '<rect width="100%" height="100%" fill="white"/>'
     yield from shapes

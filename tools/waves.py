@@ -25,9 +25,12 @@ class Channel:
         self.name, self.is_input, self.width = name, is_input, width
 
 
+def without_comments(text):
+    return re.sub(r'//[^\n]*', '', text)
+
+
 def channels_of(text):
     """The channels of a module, in the order of its ports."""
-    text = re.sub(r'//[^\n]*', '', text)
     head = text.partition(';')[0]
     ports = [(name, direction == 'input', int(top or 0) + 1) for direction, top, name in PORT.findall(head)]
     return [Channel(name[:-len('_data')], is_input, width) for name, is_input, width in ports if name.endswith('_data')]
@@ -123,7 +126,7 @@ def main():
     if len(sys.argv) != 4:
         sys.exit(__doc__.strip().split('\n')[2])
     module, rows, cycles = map(text_of, sys.argv[1:])
-    rows, cycles = list(rows_of(rows)), list(cycles_of(cycles))
+    module, rows, cycles = without_comments(module), list(rows_of(rows)), list(cycles_of(cycles))
     if len(rows) != len(cycles):
         sys.exit(f'{len(rows)} rows, but {len(cycles)} cycles: the cycle text is of other rows')
     name = re.search(r'\bmodule\s+(\w+)', module).group(1)

@@ -1,6 +1,6 @@
 -- The rows in which words of an always fed pipeline move.
-use Rattle.std.proofs.Common.{◌≡◌, ℕ, ◌+◌, ◌-◌, List, [], ◌∷◌, ◌++◌, length, ap, ◌∙◌, subst, arith, cond, Some}
-use Rattle.std.specs.Prelude.{slice_get}
+use Rattle.std.proofs.Common.{◌≡◌, ℕ, suc, ◌+◌, ◌*◌, List, [], ◌∷◌, ◌++◌, length, ap, ◌∙◌, subst, arith, cond, Some}
+use Rattle.std.specs.Prelude.{slice_get, nat_lt}
 use Rattle.std.proofs.lemmas.List.{length-append}
 use Rattle.net_core.specs.declared.net.Kind.TheVariants.{Input, Output}
 use Rattle.block_stage.specs.Machine.Pipeline.{Pipeline}
@@ -53,19 +53,19 @@ fed_after block is q outer (row ∷ more) state past st fed rows =
     (fed_after block is q outer more (one_row block state row) (past ++ ports ∷ []) (stands_next block state past row is st)
     (fed_more q past ports fed (pipeline_is_fed block q outer state row rows.0)) rows.1)
 
-pub fed_words_move_in_their_row : (block : Block) → IsBlock block → (chan place : ℕ) (q : Pipeline) → slice_get block.pipelines (sender_of block chan) ≡ Some q → q.last ≡ 0 → IsOuter block q → SendsOnce q chan place
+pub fed_words_move_in_their_row : (block : Block) → IsBlock block → (chan place : ℕ) (q : Pipeline) → slice_get block.pipelines (sender_of block chan) ≡ Some q → IsOuter block q → SendsOnce q chan place
     → (power : State) (rows : List InputRow) → HasReset rows → AreRowsFed block (since_reset [] rows)
-    → length (moved_out block (state_after block power rows) chan) ≡ length (since_reset [] rows) - q.stage place
-fed_words_move_in_their_row block is chan place q here last outer once power rows h fed =
+    → (i : ℕ) → nat_lt i (length (moved_out block (state_after block power rows) chan)) ≡ nat_lt (i * suc q.last + q.stage place) (length (since_reset [] rows))
+fed_words_move_in_their_row block is chan place q here outer once power rows h fed i =
     let since = since_reset [] rows in
     let state = after_rows block (reset_state block) since in
     let end = fed_after block is q outer since (reset_state block) [] (stands_at_reset block) tt fed in
     let long : length end.past ≡ length since = end.long ∙ zero_on (length since) in
     let moved : moved_out block state chan ≡ (after_cycles q (at_reset q) end.past).sent chan = ap (λ m. sent_of m chan) (there block state end.past end.stands (sender_of block chan) q here) in
-    ap (λ s. length (moved_out block s chan)) (since_the_last_reset block power [] rows h)
-    ∙ ap length moved
-    ∙ always_fed_words_move_in_their_cycle q (is.legal (sender_of block chan) q here) last chan place once end.past end.fed
-    ∙ ap (λ n. n - q.stage place) long
+    ap (λ s. nat_lt i (length (moved_out block s chan))) (since_the_last_reset block power [] rows h)
+    ∙ ap (λ words. nat_lt i (length words)) moved
+    ∙ always_fed_words_move_in_their_cycle q (is.legal (sender_of block chan) q here) chan place once end.past end.fed i
+    ∙ ap (nat_lt (i * suc q.last + q.stage place)) long
   where
     zero_on : (n : ℕ) → 0 + n ≡ n
     zero_on n = omega arith

@@ -1,7 +1,7 @@
 //! The laws of blocks, each the contract of a function without a body. They speak of any rows of a simulation among which
 //! one resets, from any contents of the registers on, as they come up with power.
 
-ghost use Rattle.std.specs.Prelude.{◌≡◌, ◌≤◌, ◌-◌, ℕ, true, false, List, [], ◌++◌, length, get_or, slice_get, if◌then◌else◌, option_to_list, Some, None};
+ghost use Rattle.std.specs.Prelude.{◌≡◌, ◌≤◌, ◌+◌, ◌*◌, nat_lt, ℕ, suc, true, false, List, [], ◌++◌, length, get_or, slice_get, if◌then◌else◌, option_to_list, Some, None};
 ghost use Rattle.base.specs.Lists.Prefix.{IsPrefix};
 ghost use Rattle.xb_bits.specs.Word.{Word};
 ghost use Rattle.net_core.specs.declared.net.Chan.{Chan};
@@ -65,12 +65,13 @@ pub fn nothing_is_driven_in_reset()
     ensures outputs { (block : Block) (state : State) (row : InputRow) (c : ℕ) → row.rst ≡ true → offers block state row c ≡ None }
 {}
 
-/// The words of a pipeline that keeps its turn in stage 0 and has no inner channel, where in each row since the last reset every
-/// input has a valid word and every output is ready: where each activation sends one word on a channel, word `i` moves exactly in
-/// row `i + s` since the reset, `s` the stage of the sending site.
+/// The words of a pipeline that has no inner channel, where in each row since the last reset every input has a valid word and every
+/// output is ready: where each activation sends one word on a channel, word `i` moves exactly in row `i * interval + s` since the
+/// reset. The interval is one more than the stage at whose end an activation gives the turn back, and `s` is the stage of the
+/// sending site.
 pub fn always_fed_words_move_in_their_row()
     ensures { (block : Block) → IsBlock block → (chan place : ℕ) (q : Pipeline) → slice_get block.pipelines (sender_of block chan) ≡ Some q →
-        q.last ≡ 0 → IsOuter block q → SendsOnce q chan place →
-        (power : State) (rows : List InputRow) → HasReset rows → AreRowsFed block (since_reset [] rows) →
-        length (moved_out block (state_after block power rows) chan) ≡ length (since_reset [] rows) - q.stage place }
+        IsOuter block q → SendsOnce q chan place →
+        (power : State) (rows : List InputRow) → HasReset rows → AreRowsFed block (since_reset [] rows) → (i : ℕ) →
+        nat_lt i (length (moved_out block (state_after block power rows) chan)) ≡ nat_lt (i * suc q.last + q.stage place) (length (since_reset [] rows)) }
 {}

@@ -16,6 +16,7 @@ pub mod Asserts
 pub mod Offered
 pub mod Meeting
 pub mod Exact
+pub mod InTime
 pub mod Handshakes
 pub mod Circuits
 pub mod Tables

@@ -6,6 +6,8 @@ pub mod Cycle
 pub mod Since
 -- a pipeline that is always fed and whose words are always taken
 pub mod Steady
+-- what an activation has still to do
+pub mod Next
 -- a pipeline with another circuit, and the laws of circuits
 pub mod Circuits
 -- the circuit that the tables of the code make

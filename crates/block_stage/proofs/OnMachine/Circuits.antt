@@ -1,22 +1,24 @@
 -- The right circuit keeps the laws.
-use Rattle.std.proofs.Common.{◌≡◌, ℕ, ◌≤◌, ◌-◌, List, [], ◌∷◌, length, refl, ap, ◌∙◌, subst, cond, true, false, suc, ◌<◌, Some}
-use Rattle.std.specs.Prelude.{◌==◌, option_to_list}
+use Rattle.std.proofs.Common.{◌≡◌, ℕ, ◌≤◌, ◌+◌, ◌*◌, List, [], ◌∷◌, length, refl, ap, ◌∙◌, subst, cond, true, false, suc, ◌<◌, Some}
+use Rattle.std.specs.Prelude.{◌==◌, nat_lt, option_to_list}
 use Rattle.xb_bits.specs.Word.{Word}
 use Rattle.base.specs.Lists.Prefix.{IsPrefix}
 use Rattle.net_core.specs.declared.event.Event.{Event}
 use Rattle.net_core.specs.Trace.{trace}
 use Rattle.net_core.specs.Cuts.{words_sent, count_received}
 use Rattle.block_stage.specs.Machine.Pipeline.{Pipeline}
-use Rattle.block_stage.specs.Machine.Cycle.{Ports, Registers, circuit, in_stage, walk, moves, after_cycle, transfers_in, asserted_in, asserted_by}
+use Rattle.block_stage.specs.Machine.Cycle.{Ports, Registers, circuit, brought, in_stage, walk, moves, after_cycle, transfers_in, asserted_in, asserted_by}
 use Rattle.block_stage.specs.Machine.Since.{Since, took, gave, at_reset, one_more, after_cycles}
 use Rattle.block_stage.specs.Machine.Circuits.{stage_by, moves_by, cycle_by, transfers_by, asserts_by, one_by, cycles_by, IsLawful}
 use Rattle.block_stage.specs.Machine.Steady.{IsStageMet}
+use Rattle.block_stage.specs.Machine.Next.{closed_ports, IsNextEvent, IsSpent}
 use Rattle.block_stage.proofs.OnMachine.Prefixes.{sent_words_are_a_prefix, received_words_are_the_traces}
 use Rattle.block_stage.proofs.OnMachine.Offers.{what_stalls_stays_asserted}
 use Rattle.block_stage.proofs.OnMachine.Offered.{untaken_words_stay_valid}
 use Rattle.block_stage.proofs.OnMachine.Asserts.{one_site_asserts_valid, one_site_asserts_ready}
 use Rattle.block_stage.proofs.OnMachine.Meeting.{a_stage_moves_where_it_can, a_moved_activation_stands_in_the_next_stage, the_turn_comes_back}
-use Rattle.block_stage.proofs.OnMachine.Exact.{always_fed_words_move_in_their_cycle}
+use Rattle.block_stage.proofs.OnMachine.Exact.{always_fed_words_move_in_their_cycle, words_move_once_fed}
+use Rattle.block_stage.proofs.OnMachine.InTime.{the_next_event_is_asserted_in_time}
 use Rattle.block_stage.proofs.OnMachine.Handshakes.{sent_words_go_where_there_is_room, received_words_go_where_ready}
 
 pub same_stage : (q : Pipeline) (c : Registers) (ports : Ports) (j : ℕ) → in_stage q c ports j ≡ stage_by circuit q c ports j
@@ -130,6 +132,22 @@ turn_by : (q : Pipeline) (ports : Ports) (c : Registers) → (moves q c ports q.
 unfolding after_cycle moves in_stage walk
 turn_by q ports c h = h
 
+abbrev InTime : Pipeline → List Ports → Ports → ℕ → ℕ → Event → Registers → Registers → Type 0
+InTime q cycles ports j i event c later =
+    c.full j ≡ true → IsNextEvent q.proc.behavior (brought c j).state (stage_by circuit q c closed_ports j) i event
+    → ((k : ℕ) → j < k → k < q.stages → c.full k ≡ true → IsSpent q.proc.behavior (brought c k).state (stage_by circuit q c closed_ports k))
+    → j + length cycles ≡ q.stage i
+    → (others : List Event) × (asserted_by (stage_by circuit q later ports (q.stage i)) ≡ event ∷ others)
+
+in_time_by : (q : Pipeline) (cycles : List Ports) (ports : Ports) (j i : ℕ) (event : Event) (c later : Registers)
+    → (c.full j ≡ true → IsNextEvent q.proc.behavior (brought c j).state (in_stage q c closed_ports j) i event
+    → ((k : ℕ) → j < k → k < q.stages → c.full k ≡ true → IsSpent q.proc.behavior (brought c k).state (in_stage q c closed_ports k))
+    → j + length cycles ≡ q.stage i
+    → (others : List Event) × (asserted_by (in_stage q later ports (q.stage i)) ≡ event ∷ others))
+    → InTime q cycles ports j i event c later
+unfolding in_stage walk
+in_time_by q cycles ports j i event c later h = h
+
 -- a law of the registers after any cycles
 after_any : (q : Pipeline) (law : Registers → Type 0) (cycles : List Ports) → law (after_cycles q (at_reset q) cycles).contents → law (cycles_by circuit q (at_reset q) cycles).contents
 after_any q law cycles h = subst (λ s. law s.contents) (same_cycles q cycles (at_reset q)) h
@@ -164,7 +182,16 @@ lawful = record {
       (stands_next_by q ports j (after_cycles q (at_reset q) cycles).contents (a_moved_activation_stands_in_the_next_stage q (after_cycles q (at_reset q) cycles).contents ports j));
   the_turn_comes_back = λ q is cycles ports.
       after_any q (TurnComesBack q ports) cycles (turn_by q ports (after_cycles q (at_reset q) cycles).contents (the_turn_comes_back q (after_cycles q (at_reset q) cycles).contents ports));
-  always_fed_words_move_in_their_cycle = λ q is zero_is chan place once cycles fed.
-      subst (λ (s : Since). length (s.sent chan) ≡ length cycles - q.stage place) (same_cycles q cycles (at_reset q))
-      (always_fed_words_move_in_their_cycle q is zero_is chan place once cycles fed);
+  always_fed_words_move_in_their_cycle = λ q is chan place once cycles fed i.
+      subst (λ (s : Since). nat_lt i (length (s.sent chan)) ≡ nat_lt (i * suc q.last + q.stage place) (length cycles)) (same_cycles q cycles (at_reset q))
+      (always_fed_words_move_in_their_cycle q is chan place once cycles fed i);
+  words_move_once_fed = λ q is chan place once past cycles fed i l.
+      subst (λ (s : Since). length (s.sent chan) + i < length ((cycles_by circuit q s cycles).sent chan)) (same_cycles q past (at_reset q))
+      (subst (λ (s : Since). length ((after_cycles q (at_reset q) past).sent chan) + i < length (s.sent chan)) (same_cycles q cycles (after_cycles q (at_reset q) past))
+      (words_move_once_fed q is chan place once past cycles fed i l));
+  the_next_event_is_asserted_in_time = λ q is past cycles ports j i event l.
+      let since = after_cycles q (at_reset q) past in
+      subst (λ (s : Since). InTime q cycles ports j i event s.contents (cycles_by circuit q s cycles).contents) (same_cycles q past (at_reset q))
+      (subst (λ (s : Since). InTime q cycles ports j i event since.contents s.contents) (same_cycles q cycles since)
+      (in_time_by q cycles ports j i event since.contents (after_cycles q since cycles).contents (the_next_event_is_asserted_in_time q is past cycles ports j i event l)));
 }

@@ -1,10 +1,11 @@
 -- The cycle in which each word of an always fed pipeline moves.
-use Rattle.std.proofs.Common.{◌≡◌, ℕ, zero, suc, ◌+◌, ◌-◌, ◌<◌, ◌≤◌, List, [], ◌∷◌, length, refl, sym, ap, ◌∙◌, subst, arith, cond, true, false, Bool, eqb, Option, Some, None}
-use Rattle.std.specs.Prelude.{◌⊎◌, ◌||◌, ◌&&◌, not, slice_get, nat_le, is_some}
+use Rattle.std.proofs.Common.{◌≡◌, ℕ, zero, suc, ◌+◌, ◌*◌, ◌-◌, ◌<◌, ◌≤◌, List, [], ◌∷◌, length, refl, sym, ap, ◌∙◌, subst, arith, cond, true, false, Bool, eqb, Option, Some, None}
+use Rattle.std.specs.Prelude.{◌⊎◌, ◌||◌, ◌&&◌, not, slice_get, nat_lt, is_some}
 use Rattle.std.proofs.Common.{inl, inr}
 use Rattle.std.proofs.lemmas.Bool.{cases_lt}
 use Rattle.std.proofs.lemmas.Bool.Decides.{nat_tests}
 use Rattle.std.proofs.lemmas.List.{length-append}
+use Rattle.std.proofs.Math.Nat.{suc-mul, zero-mul, mul-le-mul_right}
 use Rattle.xb_bits.specs.Word.{Word}
 use Rattle.xb_value.specs.declared.value.Value.{Value}
 use Rattle.net_core.specs.declared.net.Site.{Site}
@@ -15,7 +16,7 @@ use Rattle.block_stage.specs.Machine.Pipeline.{Pipeline, IsPipeline, first}
 use Rattle.block_stage.specs.Machine.Cycle.{Ports, Registers, opened, brought, Transfer, in_stage, moves_before, moves, after_cycle, transfers_in}
 use Rattle.block_stage.specs.Machine.Since.{gave, Since, at_reset, one_more, after_cycles}
 use Rattle.block_stage.specs.Machine.Steady.{IsFed, AreFed, SendsOnce}
-use Rattle.block_stage.proofs.OnMachine.Choices.{eqb-eq, eq-eqb, eq_apart, if_none}
+use Rattle.block_stage.proofs.OnMachine.Choices.{eqb-eq, eq-eqb, if_none}
 use Rattle.block_stage.proofs.OnMachine.Walks.{Goes, IsGoing, ends, skips, takes, gives, no_word, no_room, walk_goes}
 use Rattle.block_stage.proofs.OnMachine.Rests.{site_at}
 use Rattle.block_stage.proofs.OnMachine.Stages.{stage_at, stands_before, stands_behind, first_within, first_grows}
@@ -24,6 +25,7 @@ use Rattle.block_stage.proofs.OnMachine.Holding.{IsClean, stage_walk, cleared_by
 use Rattle.block_stage.proofs.OnMachine.Turns.{cases, full_zero, full_suc}
 use Rattle.block_stage.proofs.OnMachine.Gathering.{all_only}
 use Rattle.block_stage.proofs.OnMachine.Standing.{given_of, idle_gives}
+use Rattle.block_stage.proofs.OnMachine.Prefixes.{stands}
 
 -- the sites of a stage, none of which is done, from the first one on
 fresh_goes : (q : Pipeline) (c : Registers) (ports : Ports) (j : ℕ) → c.full j ≡ true → IsClean q c j → first q j ≤ first q (suc j)
@@ -93,11 +95,6 @@ gives_one b ch place ports at on s got got' i n p transfers stall (gives {n = m}
 gives_one b ch place ports at on s got got' i n p transfers stall (no_word t o) e l r only = cc
 gives_one b ch place ports at on s got got' i n p transfers stall (no_room w t o) e l r only = cc
 
--- in each cycle every stage that holds an activation moves, and no site is done
-record Runs (q : Pipeline) (c : Registers) (k : ℕ) : Type 0 where
-  full : (j : ℕ) → j < q.stages → c.full j ≡ nat_le j k
-  clean : (j : ℕ) → j < q.stages → IsClean q c j
-
 -- no stage of a pipeline that is fed waits
 fed_passes : (q : Pipeline) → IsPipeline q → (c : Registers) (ports : Ports) → IsFed q ports → (j : ℕ) → (in_stage q c ports j).stall ≡ None
 fed_passes q is c ports fed j = stage_meets q is c ports j (λ i site here at. fed i site here)
@@ -125,44 +122,69 @@ all_moves : (q : Pipeline) → IsPipeline q → (c : Registers) (ports : Ports) 
 unfolding moves
 all_moves q is c ports fed j l = all_move q is c ports fed (q.stages - suc j) j (omega arith)
 
-runs_on : (q : Pipeline) → IsPipeline q → q.last ≡ 0 → (c : Registers) (k : ℕ) (ports : Ports) → IsFed q ports → Runs q c k → Runs q (after_cycle q c ports) (suc k)
-runs_on q is last c k ports fed runs = record { full = full; clean = clean }
+-- what a cycle in which it is fed leaves: each activation one stage further, and no site done
+shifts : (x y : Bool) → (x || (y && not y)) ≡ x
+shifts true y = refl
+shifts false true = refl
+shifts false false = refl
+
+shifted : (q : Pipeline) → IsPipeline q → (c : Registers) (ports : Ports) → IsFed q ports → (j : ℕ) → suc j < q.stages → (after_cycle q c ports).full (suc j) ≡ c.full j
+shifted q is c ports fed j l =
+    full_suc q c ports j
+    ∙ ap (λ x. x || (c.full (suc j) && not (moves q c ports (suc j)))) (all_moves q is c ports fed j (omega arith))
+    ∙ ap (λ x. c.full j || (c.full (suc j) && not x)) (all_moves q is c ports fed (suc j) l)
+    ∙ shifts (c.full j) (c.full (suc j))
+
+turned : (q : Pipeline) → IsPipeline q → (c : Registers) (ports : Ports) → IsFed q ports → (after_cycle q c ports).full 0 ≡ c.full q.last
+turned q is c ports fed =
+    full_zero q c ports
+    ∙ ap (λ x. x || (c.full 0 && not (moves q c ports 0))) (all_moves q is c ports fed q.last is.last)
+    ∙ ap (λ x. c.full q.last || (c.full 0 && not x)) (all_moves q is c ports fed 0 (let h = is.last in omega (arith, h)))
+    ∙ shifts (c.full q.last) (c.full 0)
+
+cleared : (q : Pipeline) → IsPipeline q → (c : Registers) (ports : Ports) → IsFed q ports → ((j : ℕ) → j < q.stages → c.full j ≡ false → IsClean q c j)
+    → (j : ℕ) → j < q.stages → IsClean q (after_cycle q c ports) j
+cleared q is c ports fed clean j l = go (cases (c.full j))
   where
-    moved : (j : ℕ) → j < q.stages → moves q c ports j ≡ c.full j
-    moved = all_moves q is c ports fed
+    go : (c.full j ≡ true) ⊎ (c.full j ≡ false) → IsClean q (after_cycle q c ports) j
+    go (inl f) = cleared_by_moving q is c ports j (all_moves q is c ports fed j l ∙ f)
+    go (inr f) = clean_stays q is c ports j f (clean j l f)
 
-    le_zero : (k : ℕ) → nat_le 0 k ≡ true
-    le_zero k = grind (arith, nat_tests)
+-- no site is done, and so many cycles ago an activation began, as one has in each interval since: activation i stands in stage j now where
+-- i * interval + j is this number of cycles
+record Fills (q : Pipeline) (c : Registers) (k : ℕ) : Type 0 where
+  full : (i j : ℕ) → j < q.stages → i * suc q.last + j ≡ k → c.full j ≡ true
+  clean : (j : ℕ) → j < q.stages → IsClean q c j
 
-    le_suc : (j k : ℕ) → nat_le (suc j) (suc k) ≡ nat_le j k
-    le_suc j k = grind (arith, nat_tests)
+fills_on : (q : Pipeline) → IsPipeline q → (c : Registers) (k : ℕ) (ports : Ports) → IsFed q ports → Fills q c k → Fills q (after_cycle q c ports) (suc k)
+fills_on q is c k ports fed fills = record { full = full; clean = cleared q is c ports fed (λ j l f. fills.clean j l) }
+  where
+    turns : (i : ℕ) → i * suc q.last + 0 ≡ suc k → c.full q.last ≡ true
+    turns zero e = let t = zero-mul (suc q.last) in absurd (omega (arith, e, t))
+    turns (suc i) e = let t = suc-mul i (suc q.last) in fills.full i q.last is.last (omega (arith, e, t))
 
-    begins : (x y z : Bool) → x ≡ true → (x || (y && not z)) ≡ true
-    begins x y z e = rw e refl
+    full : (i j : ℕ) → j < q.stages → i * suc q.last + j ≡ suc k → (after_cycle q c ports).full j ≡ true
+    full i zero l e = turned q is c ports fed ∙ turns i e
+    full i (suc j) l e = shifted q is c ports fed j l ∙ fills.full i j (omega arith) (omega (arith, e))
 
-    shifts : (x y : Bool) → (x || (y && not y)) ≡ x
-    shifts true y = refl
-    shifts false true = refl
-    shifts false false = refl
+-- and no other stage holds one
+record Runs (q : Pipeline) (c : Registers) (k : ℕ) : Type 0 where
+  held : (j : ℕ) → j < q.stages → c.full j ≡ true → (i : ℕ) × (i * suc q.last + j ≡ k)
+  fills : Fills q c k
 
-    full : (j : ℕ) → j < q.stages → (after_cycle q c ports).full j ≡ nat_le j (suc k)
-    full zero l =
-        let lastly : moves q c ports q.last ≡ true = ap (moves q c ports) last ∙ moved 0 l ∙ runs.full 0 l ∙ le_zero k in
-        full_zero q c ports ∙ begins _ _ _ lastly ∙ sym (le_zero (suc k))
-    full (suc j) l =
-        full_suc q c ports j
-        ∙ ap (λ x. x || (c.full (suc j) && not (moves q c ports (suc j)))) (moved j (omega arith))
-        ∙ ap (λ x. c.full j || (c.full (suc j) && not x)) (moved (suc j) l)
-        ∙ shifts (c.full j) (c.full (suc j))
-        ∙ runs.full j (omega arith)
-        ∙ sym (le_suc j k)
-
-    clean : (j : ℕ) → j < q.stages → IsClean q (after_cycle q c ports) j
-    clean j l = go (cases (c.full j))
-      where
-        go : (c.full j ≡ true) ⊎ (c.full j ≡ false) → IsClean q (after_cycle q c ports) j
-        go (inl f) = cleared_by_moving q is c ports j (moved j l ∙ f)
-        go (inr f) = clean_stays q is c ports j f (runs.clean j l)
+runs_on : (q : Pipeline) → IsPipeline q → (c : Registers) (k : ℕ) (ports : Ports) → IsFed q ports → Runs q c k → Runs q (after_cycle q c ports) (suc k)
+runs_on q is c k ports fed runs = record { held = held; fills = fills_on q is c k ports fed runs.fills }
+  where
+    held : (j : ℕ) → j < q.stages → (after_cycle q c ports).full j ≡ true → (i : ℕ) × (i * suc q.last + j ≡ suc k)
+    held zero l f =
+        let h = runs.held q.last is.last (sym (turned q is c ports fed) ∙ f) in
+        let e = h.1 in
+        let t = suc-mul h.0 (suc q.last) in
+        (suc h.0, omega (arith, e, t))
+    held (suc j) l f =
+        let h = runs.held j (omega arith) (sym (shifted q is c ports fed j l) ∙ f) in
+        let e = h.1 in
+        (h.0, omega (arith, e))
 
 -- the one site
 once_at : (q : Pipeline) → IsPipeline q → (ch place : ℕ) → SendsOnce q ch place → (k : ℕ) → k < length q.proc.behavior.sites → chan_at q.proc.behavior.sites k ≡ ch
@@ -182,10 +204,10 @@ chan_of (x ∷ xs) zero site e = let h : x ≡ site = cc in ap (λ (y : Site). y
 chan_of (x ∷ xs) (suc i) site e = chan_of xs i site e
 
 -- the words that a cycle sends on the channel
-given_once : (q : Pipeline) → IsPipeline q → (ch place : ℕ) → SendsOnce q ch place → (c : Registers) (k : ℕ) (ports : Ports) → IsFed q ports → Runs q c k
-    → length (gave q.proc.behavior.sites ch (transfers_in q c ports)) ≡ cond (nat_le (q.stage place) k) 1 0
+given_once : (q : Pipeline) → IsPipeline q → (ch place : ℕ) → SendsOnce q ch place → (c : Registers) (ports : Ports) → IsFed q ports → ((j : ℕ) → j < q.stages → IsClean q c j)
+    → length (gave q.proc.behavior.sites ch (transfers_in q c ports)) ≡ cond (c.full (q.stage place)) 1 0
 unfolding transfers_in
-given_once q is ch place once c k ports fed runs =
+given_once q is ch place once c ports fed clean =
     ap length (given_of q c ports ch q.stages 0 ∙ all_only (λ j. gave q.proc.behavior.sites ch (in_stage q c ports j).transfers) s q.stages 0 (omega arith) (omega (arith, within)) (λ j a z ne. other j (omega arith) ne))
     ∙ this (cases (c.full s))
   where
@@ -208,66 +230,280 @@ given_once q is ch place once c k ports fed runs =
             let grows = first_grows q is j (suc j) (omega arith) in
             let fits = first_within q (suc j) in
             gives_nothing q.proc.behavior ch ports (brought c j).state (brought c j).got w.got (first q j) (first q (suc j) - first q j) w.place w.transfers w.stall
-            (fresh_goes q c ports j f (runs.clean j l) grows)
+            (fresh_goes q c ports j f (clean j l) grows)
             (λ i x y e s' got w' t.
             let same = once_at q is ch place once i (omega arith) e s' got w' t in
             let at = stage_at q is i j x (omega arith) in
             ne (sym at ∙ ap q.stage same))
 
-    this : (c.full s ≡ true) ⊎ (c.full s ≡ false) → length (gave q.proc.behavior.sites ch (in_stage q c ports s).transfers) ≡ cond (nat_le s k) 1 0
-    this (inr f) = ap length (idle_gives q c ports ch s f) ∙ (let e = sym (runs.full s within) ∙ f in rw e refl)
+    this : (c.full s ≡ true) ⊎ (c.full s ≡ false) → length (gave q.proc.behavior.sites ch (in_stage q c ports s).transfers) ≡ cond (c.full s) 1 0
+    this (inr f) = ap length (idle_gives q c ports ch s f) ∙ (rw f refl)
     this (inl f) =
         let w = in_stage q c ports s in
         let grows = first_grows q is s (suc s) (omega arith) in
         let fits = first_within q (suc s) in
         let from = stands_behind q is place s len (omega arith) in
         let until = stands_before q is place (suc s) len (omega arith) in
-        let goes = fresh_goes q c ports s f (runs.clean s within) grows in
-        let e = sym (runs.full s within) ∙ f in
+        let goes = fresh_goes q c ports s f (clean s within) grows in
         gives_one q.proc.behavior ch place ports (chan_of q.proc.behavior.sites place once.site once.here ∙ once.chan_is) once.on
         (brought c s).state (brought c s).got w.got (first q s) (first q (suc s) - first q s) w.place w.transfers w.stall goes
         (fed_passes q is c ports fed s)
         from (omega arith)
         (λ i x y a s' got w' t. once_at q is ch place once i (omega arith) a s' got w' t)
-        ∙ (rw e refl)
+        ∙ (rw f refl)
 
-one_later : (s k n : ℕ) → n ≡ k - s → n + cond (nat_le s k) 1 0 ≡ suc k - s
-one_later s k n e = go (cases_lt k s)
+-- word i has moved after k cycles exactly where its own one is among them; n words have moved
+abbrev AreMoved : ℕ → ℕ → ℕ → ℕ → Type 0
+AreMoved m s k n = (i : ℕ) → (i < n → i * suc m + s < k) × (i * suc m + s < k → i < n)
+
+-- in the next word's cycle
+moves_next : (m s k n w : ℕ) → w * suc m + s ≡ k → AreMoved m s k n → AreMoved m s (suc k) (suc n)
+moves_next m s k n w e h i = (early, late)
   where
-    le_true : (a b : ℕ) → a ≤ b → nat_le a b ≡ true
-    le_true a b h = grind (arith, nat_tests)
+    not_before : (w < n) ⊎ (n ≤ w) → n ≤ w
+    not_before (inl x) = let y = (h w).0 x in absurd (omega (arith, y, e))
+    not_before (inr x) = x
 
-    le_false : (a b : ℕ) → b < a → nat_le a b ≡ false
-    le_false a b h = grind (arith, nat_tests)
+    not_behind : (n < w) ⊎ (w ≤ n) → w ≤ n
+    not_behind (inl x) =
+        let less : suc n ≤ w = omega (arith, x) in
+        let grown = mul-le-mul_right (suc m) less in
+        let one = suc-mul n (suc m) in
+        let y = (h n).1 (omega (arith, grown, one, e)) in
+        absurd (omega (arith, y))
+    not_behind (inr x) = x
 
-    go : (k < s) ⊎ (s ≤ k) → n + cond (nat_le s k) 1 0 ≡ suc k - s
-    go (inl l) = let h = le_false s k l in rw h (omega arith)
-    go (inr l) = let h = le_true s k l in rw h (omega arith)
+    same : n ≡ w
+    same = let x = not_before (cases_lt w n) in let y = not_behind (cases_lt n w) in omega (arith, x, y)
 
-exact_from : (q : Pipeline) → IsPipeline q → q.last ≡ 0 → (ch place : ℕ) → SendsOnce q ch place → (cycles : List Ports) → AreFed q cycles → (since : Since) (k : ℕ) → Runs q since.contents k
-    → length (since.sent ch) ≡ k - q.stage place → length ((after_cycles q since cycles).sent ch) ≡ (length cycles + k) - q.stage place
-exact_from q is last ch place once [] fed since k runs e = let h : 0 + k ≡ k = omega arith in rw h e
-exact_from q is last ch place once (ports ∷ more) fed since k runs e =
-    let one = given_once q is ch place once since.contents k ports fed.0 runs in
-    let sum = length-append (since.sent ch) (gave q.proc.behavior.sites ch (transfers_in q since.contents ports)) in
-    let later = one_later (q.stage place) k (length (since.sent ch)) e in
-    let ih = exact_from q is last ch place once more fed.1 (one_more q since ports) (suc k) (runs_on q is last since.contents k ports fed.0 runs) (sum ∙ ap (λ x. length (since.sent ch) + x) one ∙ later) in
-    let h : length more + suc k ≡ suc (length more) + k = omega arith in
-    ih ∙ ap (λ x. x - q.stage place) h
+    early : i < suc n → i * suc m + s < suc k
+    early l =
+        let few : i ≤ w = let z = same in omega (arith, l, z) in
+        let grown = mul-le-mul_right (suc m) few in
+        omega (arith, grown, e)
+
+    late : i * suc m + s < suc k → i < suc n
+    late l = go (cases_lt i (suc n))
+      where
+        go : (i < suc n) ⊎ (suc n ≤ i) → i < suc n
+        go (inl x) = x
+        go (inr x) =
+            let more : suc w ≤ i = let z = same in omega (arith, x, z) in
+            let grown = mul-le-mul_right (suc m) more in
+            let one = suc-mul w (suc m) in
+            absurd (omega (arith, grown, one, e, l))
+
+-- in another cycle
+moves_none : (m s k n : ℕ) → ((i : ℕ) → i * suc m + s ≡ k → ⊥) → AreMoved m s k n → AreMoved m s (suc k) n
+moves_none m s k n other h i = (early, late)
+  where
+    early : i < n → i * suc m + s < suc k
+    early l = let x = (h i).0 l in omega (arith, x)
+
+    late : i * suc m + s < suc k → i < n
+    late l = go (cases_lt (i * suc m + s) k)
+      where
+        go : (i * suc m + s < k) ⊎ (k ≤ i * suc m + s) → i < n
+        go (inl x) = (h i).1 x
+        go (inr x) = absurd (other i (omega (arith, x, l)))
+
+moved_from : (q : Pipeline) → IsPipeline q → (ch place : ℕ) → SendsOnce q ch place → (cycles : List Ports) → AreFed q cycles → (since : Since) (k : ℕ) → Runs q since.contents k
+    → AreMoved q.last (q.stage place) k (length (since.sent ch)) → AreMoved q.last (q.stage place) (length cycles + k) (length ((after_cycles q since cycles).sent ch))
+moved_from q is ch place once [] fed since k runs h = let e : k ≡ 0 + k = omega arith in subst (λ x. AreMoved q.last (q.stage place) x (length (since.sent ch))) e h
+moved_from q is ch place once (ports ∷ more) fed since k runs h =
+    subst (λ x. AreMoved q.last s x (length ((after_cycles q after more).sent ch))) later
+    (moved_from q is ch place once more fed.1 after (suc k) (runs_on q is since.contents k ports fed.0 runs) (subst (AreMoved q.last s (suc k)) (sym count) (by (cases (since.contents.full s)))))
+  where
+    s : ℕ
+    s = q.stage place
+
+    after : Since
+    after = one_more q since ports
+
+    within : s < q.stages
+    within = is.within place (in_range q.proc.behavior.sites place once.site once.here)
+
+    later : length more + suc k ≡ suc (length more) + k
+    later = omega arith
+
+    count : length (after.sent ch) ≡ length (since.sent ch) + cond (since.contents.full s) 1 0
+    count =
+        length-append (since.sent ch) (gave q.proc.behavior.sites ch (transfers_in q since.contents ports))
+        ∙ ap (λ x. length (since.sent ch) + x) (given_once q is ch place once since.contents ports fed.0 runs.fills.clean)
+
+    one : (n : ℕ) (t : Bool) → t ≡ true → suc n ≡ n + cond t 1 0
+    one n true f = omega arith
+    one n false f = cc
+
+    none : (n : ℕ) (t : Bool) → t ≡ false → n ≡ n + cond t 1 0
+    none n true f = cc
+    none n false f = omega arith
+
+    by : (since.contents.full s ≡ true) ⊎ (since.contents.full s ≡ false) → AreMoved q.last s (suc k) (length (since.sent ch) + cond (since.contents.full s) 1 0)
+    by (inl f) =
+        let w = runs.held s within f in
+        subst (AreMoved q.last s (suc k)) (one (length (since.sent ch)) (since.contents.full s) f) (moves_next q.last s k (length (since.sent ch)) w.0 w.1 h)
+    by (inr f) =
+        subst (AreMoved q.last s (suc k)) (none (length (since.sent ch)) (since.contents.full s) f)
+        (moves_none q.last s k (length (since.sent ch)) (λ i e. let x = runs.fills.full i s within e in cc) h)
 
 runs_at_reset : (q : Pipeline) → Runs q (opened q) 0
 unfolding opened
-runs_at_reset q = record { full = full; clean = λ j l k x y. refl }
+runs_at_reset q = record { held = held; fills = record { full = full; clean = λ j l k x y. refl } }
   where
-    full : (j : ℕ) → j < q.stages → eqb j 0 ≡ nat_le j 0
-    full zero l = refl
-    full (suc j) l = eq_apart (suc j) 0 (λ e. omega arith) ∙ sym (le_none j)
-      where
-        le_none : (j : ℕ) → nat_le (suc j) 0 ≡ false
-        le_none j = grind (arith, nat_tests)
+    held : (j : ℕ) → j < q.stages → eqb j 0 ≡ true → (i : ℕ) × (i * suc q.last + j ≡ 0)
+    held j l f = let e = eqb-eq j 0 f in let t = zero-mul (suc q.last) in (0, omega (arith, e, t))
 
-pub always_fed_words_move_in_their_cycle : (q : Pipeline) → IsPipeline q → q.last ≡ 0 → (chan place : ℕ) → SendsOnce q chan place → (cycles : List Ports) → AreFed q cycles
-    → length ((after_cycles q (at_reset q) cycles).sent chan) ≡ length cycles - q.stage place
-always_fed_words_move_in_their_cycle q is last chan place once cycles fed =
-    let h : length cycles + 0 ≡ length cycles = omega arith in
-    exact_from q is last chan place once cycles fed (at_reset q) 0 (runs_at_reset q) (omega arith) ∙ ap (λ x. x - q.stage place) h
+    full : (i j : ℕ) → j < q.stages → i * suc q.last + j ≡ 0 → eqb j 0 ≡ true
+    full i j l e = eq-eqb j 0 (omega (arith, e))
+
+none_moved : (m s : ℕ) → AreMoved m s 0 0
+none_moved m s i = ((λ l. absurd (omega (arith, l))), (λ l. absurd (omega (arith, l))))
+
+same_order : (a b x y : ℕ) → (a < b → x < y) × (x < y → a < b) → nat_lt a b ≡ nat_lt x y
+same_order a b x y h = go (cases_lt a b) (cases_lt x y)
+  where
+    lt_true : (a b : ℕ) → a < b → nat_lt a b ≡ true
+    lt_true a b h = grind (arith, nat_tests)
+
+    lt_false : (a b : ℕ) → b ≤ a → nat_lt a b ≡ false
+    lt_false a b h = grind (arith, nat_tests)
+
+    go : (a < b) ⊎ (b ≤ a) → (x < y) ⊎ (y ≤ x) → nat_lt a b ≡ nat_lt x y
+    go (inl l) r = lt_true a b l ∙ sym (lt_true x y (h.0 l))
+    go (inr l) (inr r) = lt_false a b l ∙ sym (lt_false x y r)
+    go (inr l) (inl r) = let z = h.1 r in absurd (omega (arith, z, l))
+
+pub always_fed_words_move_in_their_cycle : (q : Pipeline) → IsPipeline q → (chan place : ℕ) → SendsOnce q chan place → (cycles : List Ports) → AreFed q cycles
+    → (i : ℕ) → nat_lt i (length ((after_cycles q (at_reset q) cycles).sent chan)) ≡ nat_lt (i * suc q.last + q.stage place) (length cycles)
+always_fed_words_move_in_their_cycle q is chan place once cycles fed i =
+    same_order i (length ((after_cycles q (at_reset q) cycles).sent chan)) (i * suc q.last + q.stage place) (length cycles)
+    (subst (λ k. AreMoved q.last (q.stage place) k (length ((after_cycles q (at_reset q) cycles).sent chan))) no_more
+    (moved_from q is chan place once cycles fed (at_reset q) 0 (runs_at_reset q) (none_moved q.last (q.stage place))) i)
+  where
+    no_more : length cycles + 0 ≡ length cycles
+    no_more = omega arith
+
+-- ---- from any cycle on
+
+-- the words of a channel never become fewer
+keeps_words : (q : Pipeline) (since : Since) (ports : Ports) (ch : ℕ) → length (since.sent ch) ≤ length ((one_more q since ports).sent ch)
+keeps_words q since ports ch = let e = length-append (since.sent ch) (gave q.proc.behavior.sites ch (transfers_in q since.contents ports)) in omega (arith, e)
+
+-- word i of those behind the first n has moved where its cycle has been
+abbrev AreSent : ℕ → ℕ → ℕ → ℕ → ℕ → Type 0
+AreSent m s k n now = (n ≤ now) × ((i : ℕ) → i * suc m + s < k → n + i < now)
+
+sends_next : (m s k n now : ℕ) → AreSent m s k n now → AreSent m s (suc k) n (suc now)
+sends_next m s k n now h = (let x = h.0 in omega (arith, x), λ i l. go i l (cases_lt (i * suc m + s) k))
+  where
+    this : (i : ℕ) → i * suc m + s ≡ k → n + i ≤ now
+    this zero e = let x = h.0 in omega (arith, x)
+    this (suc i) e =
+        let t = suc-mul i (suc m) in
+        let x = h.1 i (omega (arith, t, e)) in
+        omega (arith, x)
+
+    go : (i : ℕ) → i * suc m + s < suc k → (i * suc m + s < k) ⊎ (k ≤ i * suc m + s) → n + i < suc now
+    go i l (inl x) = let y = h.1 i x in omega (arith, y)
+    go i l (inr x) = let y = this i (omega (arith, x, l)) in omega (arith, y)
+
+sends_none : (m s k n now : ℕ) → ((i : ℕ) → i * suc m + s ≡ k → ⊥) → AreSent m s k n now → AreSent m s (suc k) n now
+sends_none m s k n now other h = (h.0, λ i l. go i l (cases_lt (i * suc m + s) k))
+  where
+    go : (i : ℕ) → i * suc m + s < suc k → (i * suc m + s < k) ⊎ (k ≤ i * suc m + s) → n + i < now
+    go i l (inl x) = h.1 i x
+    go i l (inr x) = absurd (other i (omega (arith, x, l)))
+
+sent_from : (q : Pipeline) → IsPipeline q → (ch place : ℕ) → SendsOnce q ch place → (cycles : List Ports) → AreFed q cycles → (since : Since) (k n : ℕ) → Fills q since.contents k
+    → AreSent q.last (q.stage place) k n (length (since.sent ch)) → AreSent q.last (q.stage place) (length cycles + k) n (length ((after_cycles q since cycles).sent ch))
+sent_from q is ch place once [] fed since k n fills h = let e : k ≡ 0 + k = omega arith in subst (λ x. AreSent q.last (q.stage place) x n (length (since.sent ch))) e h
+sent_from q is ch place once (ports ∷ more) fed since k n fills h =
+    subst (λ x. AreSent q.last s x n (length ((after_cycles q after more).sent ch))) later
+    (sent_from q is ch place once more fed.1 after (suc k) n (fills_on q is since.contents k ports fed.0 fills) (subst (AreSent q.last s (suc k) n) (sym count) (by (cases (since.contents.full s)))))
+  where
+    s : ℕ
+    s = q.stage place
+
+    after : Since
+    after = one_more q since ports
+
+    within : s < q.stages
+    within = is.within place (in_range q.proc.behavior.sites place once.site once.here)
+
+    later : length more + suc k ≡ suc (length more) + k
+    later = omega arith
+
+    count : length (after.sent ch) ≡ length (since.sent ch) + cond (since.contents.full s) 1 0
+    count =
+        length-append (since.sent ch) (gave q.proc.behavior.sites ch (transfers_in q since.contents ports))
+        ∙ ap (λ x. length (since.sent ch) + x) (given_once q is ch place once since.contents ports fed.0 fills.clean)
+
+    one : (n : ℕ) (t : Bool) → t ≡ true → suc n ≡ n + cond t 1 0
+    one n true f = omega arith
+    one n false f = cc
+
+    none : (n : ℕ) (t : Bool) → t ≡ false → n ≡ n + cond t 1 0
+    none n true f = cc
+    none n false f = omega arith
+
+    by : (since.contents.full s ≡ true) ⊎ (since.contents.full s ≡ false) → AreSent q.last s (suc k) n (length (since.sent ch) + cond (since.contents.full s) 1 0)
+    by (inl f) = subst (AreSent q.last s (suc k) n) (one (length (since.sent ch)) (since.contents.full s) f) (sends_next q.last s k n (length (since.sent ch)) h)
+    by (inr f) =
+        subst (AreSent q.last s (suc k) n) (none (length (since.sent ch)) (since.contents.full s) f)
+        (sends_none q.last s k n (length (since.sent ch)) (λ i e. let x = fills.full i s within e in cc) h)
+
+-- an activation has just begun, behind a cycle in which one gave the turn back
+fills_at_turn : (q : Pipeline) (c : Registers) → c.full 0 ≡ true → ((j : ℕ) → j < q.stages → IsClean q c j) → Fills q c 0
+fills_at_turn q c f clean = record { full = full; clean = clean }
+  where
+    full : (i j : ℕ) → j < q.stages → i * suc q.last + j ≡ 0 → c.full j ≡ true
+    full i zero l e = f
+    full i (suc j) l e = absurd (omega (arith, e))
+
+sent_at_turn : (q : Pipeline) → IsPipeline q → (ch place : ℕ) → SendsOnce q ch place → (cycles : List Ports) → AreFed q cycles → (since : Since) → since.contents.full 0 ≡ true
+    → ((j : ℕ) → j < q.stages → IsClean q since.contents j) → (i : ℕ) → i * suc q.last + q.stage place < length cycles
+    → length (since.sent ch) + i < length ((after_cycles q since cycles).sent ch)
+sent_at_turn q is ch place once cycles fed since f clean i l =
+    (sent_from q is ch place once cycles fed since 0 (length (since.sent ch)) (fills_at_turn q since.contents f clean) (omega arith, λ k x. absurd (omega (arith, x)))).1 i (omega (arith, l))
+
+-- where the activation that has the turn stands in stage u
+sent_by_turn : (q : Pipeline) → IsPipeline q → (ch place : ℕ) → SendsOnce q ch place → (cycles : List Ports) → AreFed q cycles → (since : Since) (u : ℕ) → u ≤ q.last → since.contents.full u ≡ true
+    → ((j : ℕ) → j < q.stages → since.contents.full j ≡ false → IsClean q since.contents j) → (i : ℕ) → i * suc q.last + suc q.last + q.stage place < length cycles + u
+    → length (since.sent ch) + i < length ((after_cycles q since cycles).sent ch)
+sent_by_turn q is ch place once [] fed since u within here clean i l = absurd (let e : length {A = Ports} [] + u ≡ u = omega arith in omega (arith, within, l, e))
+sent_by_turn q is ch place once (ports ∷ more) fed since u within here clean i l =
+    go (cases_lt u q.last)
+    (λ x on e. sent_by_turn q is ch place once more fed.1 (one_more q since ports) (suc u) x on (λ j y f. cleared q is since.contents ports fed.0 clean j y) i e)
+  where
+    after : Since
+    after = one_more q since ports
+
+    grows : length (since.sent ch) ≤ length (after.sent ch)
+    grows = keeps_words q since ports ch
+
+    go : (u < q.last) ⊎ (q.last ≤ u)
+        → (suc u ≤ q.last → after.contents.full (suc u) ≡ true → i * suc q.last + suc q.last + q.stage place < length more + suc u
+        → length (after.sent ch) + i < length ((after_cycles q after more).sent ch))
+        → length (since.sent ch) + i < length ((after_cycles q after more).sent ch)
+    go (inl x) next =
+        let turns = is.last in
+        let on = shifted q is since.contents ports fed.0 u (omega (arith, x, turns)) ∙ here in
+        let h = next x on (omega (arith, l)) in
+        let g = grows in
+        omega (arith, g, h)
+    go (inr x) next =
+        let same : u ≡ q.last = omega (arith, x, within) in
+        let on = turned q is since.contents ports fed.0 ∙ subst (λ j. since.contents.full j ≡ true) same here in
+        let clear = cleared q is since.contents ports fed.0 clean in
+        let h = sent_at_turn q is ch place once more fed.1 after on clear i (omega (arith, l, same)) in
+        let g = grows in
+        omega (arith, g, h)
+
+pub words_move_once_fed : (q : Pipeline) → IsPipeline q → (chan place : ℕ) → SendsOnce q chan place → (past cycles : List Ports) → AreFed q cycles → (i : ℕ)
+    → suc i * suc q.last + q.stage place < length cycles
+    → length ((after_cycles q (at_reset q) past).sent chan) + i < length ((after_cycles q (after_cycles q (at_reset q) past) cycles).sent chan)
+words_move_once_fed q is chan place once past cycles fed i l =
+    let s = stands q is past in
+    let t = suc-mul i (suc q.last) in
+    sent_by_turn q is chan place once cycles fed (after_cycles q (at_reset q) past) s.0.open_stage s.1.turn.within s.1.turn.here (λ j x f. (s.1.stage_regs j x).free f) i (omega (arith, l, t))

@@ -76,12 +76,13 @@ leaves_full true false f w = refl
 leaves_full true true f w = cc
 leaves_full false stall f w = cc
 
-pub a_stage_moves_where_it_can : (q : Pipeline) → IsPipeline q → (c : Registers) (ports : Ports) (j : ℕ) → j < q.stages → c.full j ≡ true → IsStageMet q j ports
+-- one that stalls nowhere moves where the next stage is free or moves
+pub passing_moves : (q : Pipeline) (c : Registers) (ports : Ports) (j : ℕ) → j < q.stages → c.full j ≡ true → (in_stage q c ports j).stall ≡ None
     → (suc j < q.stages → c.full (suc j) ≡ true → moves q c ports (suc j) ≡ true) → moves q c ports j ≡ true
-a_stage_moves_where_it_can q is c ports j l f met next = go (q.stages - suc j) refl
+passing_moves q c ports j l f stall next = go (q.stages - suc j) refl
   where
     passes : is_some (in_stage q c ports j).stall ≡ false
-    passes = ap is_some (stage_meets q is c ports j met)
+    passes = ap is_some stall
 
     here : moves q c ports j ≡ moves_before q c ports (q.stages - suc j) j
     here = unfold moves in refl
@@ -96,6 +97,10 @@ a_stage_moves_where_it_can q is c ports j l f met next = go (q.stages - suc j) r
         here ∙ ap (λ k. moves_before q c ports k j) e
         ∙ free_or_moves (c.full j) (is_some (in_stage q c ports j).stall) (c.full (suc j)) (moves_before q c ports n (suc j)) f passes
         (λ g. sym (ap (λ k. moves_before q c ports k (suc j)) more) ∙ sym behind ∙ next (omega arith) g)
+
+pub a_stage_moves_where_it_can : (q : Pipeline) → IsPipeline q → (c : Registers) (ports : Ports) (j : ℕ) → j < q.stages → c.full j ≡ true → IsStageMet q j ports
+    → (suc j < q.stages → c.full (suc j) ≡ true → moves q c ports (suc j) ≡ true) → moves q c ports j ≡ true
+a_stage_moves_where_it_can q is c ports j l f met next = passing_moves q c ports j l f (stage_meets q is c ports j met) next
 
 -- an activation that moves stands in the next stage
 pub a_moved_activation_stands_in_the_next_stage : (q : Pipeline) (c : Registers) (ports : Ports) (j : ℕ) → moves q c ports j ≡ true → (after_cycle q c ports).full (suc j) ≡ true

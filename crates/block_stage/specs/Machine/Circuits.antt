@@ -1,6 +1,6 @@
 -- A pipeline whose registers have this circuit between them: what it does in the cycles since reset, and the laws that it
 -- keeps where the circuit is right.
-use Rattle.std.specs.Prelude.{◌≡◌, ◌≤◌, ◌<◌, ℕ, suc, ◌-◌, true, false, Bool, List, [], ◌∷◌, ◌++◌, length, if◌then◌else◌, ◌==◌, option_to_list, Some}
+use Rattle.std.specs.Prelude.{◌≡◌, ◌≤◌, ◌<◌, ℕ, suc, ◌+◌, ◌*◌, ◌-◌, nat_lt, true, false, Bool, List, [], ◌∷◌, ◌++◌, length, if◌then◌else◌, ◌==◌, option_to_list, Some}
 use Rattle.xb_bits.specs.Word.{Word}
 use Rattle.base.specs.Lists.Prefix.{IsPrefix}
 use Rattle.net_core.specs.declared.event.Event.{Event}
@@ -10,6 +10,7 @@ use Rattle.block_stage.specs.Machine.Pipeline.{Pipeline, IsPipeline, first}
 use Rattle.block_stage.specs.Machine.Cycle.{Ports, Registers, Circuit, Walk, Transfer, brought, walk_by, if_full, moves_through, contents_after, transfers_through, asserted_by, asserted_through}
 use Rattle.block_stage.specs.Machine.Since.{Since, took, gave, at_reset}
 use Rattle.block_stage.specs.Machine.Steady.{IsStageMet, AreFed, SendsOnce}
+use Rattle.block_stage.specs.Machine.Next.{closed_ports, IsNextEvent, IsSpent}
 
 abbrev pub stage_by : Circuit → Pipeline → Registers → Ports → ℕ → Walk
 stage_by x q c ports j =
@@ -88,8 +89,22 @@ pub record IsLawful (x : Circuit) : Type 0 where
   pub the_turn_comes_back : (q : Pipeline) → IsPipeline q → (cycles : List Ports) (ports : Ports) →
       let now = (cycles_by x q (at_reset q) cycles).contents in
       moves_by x q now ports q.last ≡ true → (cycle_by x q now ports).full 0 ≡ true
-  -- one that keeps the turn in stage 0, is always fed and whose words are always taken, sends word i in cycle i + s, s the
-  -- stage of its sending site
-  pub always_fed_words_move_in_their_cycle : (q : Pipeline) → IsPipeline q → q.last ≡ 0 → (chan place : ℕ) → SendsOnce q chan place →
-      (cycles : List Ports) → AreFed q cycles →
-      length ((cycles_by x q (at_reset q) cycles).sent chan) ≡ length cycles - q.stage place
+  -- one that is always fed and whose words are always taken sends word i in cycle i * interval + s, s the stage of its sending site
+  pub always_fed_words_move_in_their_cycle : (q : Pipeline) → IsPipeline q → (chan place : ℕ) → SendsOnce q chan place →
+      (cycles : List Ports) → AreFed q cycles → (i : ℕ) →
+      nat_lt i (length ((cycles_by x q (at_reset q) cycles).sent chan)) ≡ nat_lt (i * suc q.last + q.stage place) (length cycles)
+  -- and once it is fed, whatever went before, i + 1 words more have moved by the end of cycle (i + 1) * interval + s from then on
+  pub words_move_once_fed : (q : Pipeline) → IsPipeline q → (chan place : ℕ) → SendsOnce q chan place →
+      (past cycles : List Ports) → AreFed q cycles → (i : ℕ) →
+      let since = cycles_by x q (at_reset q) past in
+      suc i * suc q.last + q.stage place < length cycles →
+      length (since.sent chan) + i < length ((cycles_by x q since cycles).sent chan)
+  -- an activation comes to its next event in time, where those in later stages have none left
+  pub the_next_event_is_asserted_in_time : (q : Pipeline) → IsPipeline q → (past cycles : List Ports) (ports : Ports) (j i : ℕ) (event : Event) → j < q.stages →
+      let since = cycles_by x q (at_reset q) past in
+      let now = since.contents in
+      now.full j ≡ true →
+      IsNextEvent q.proc.behavior (brought now j).state (stage_by x q now closed_ports j) i event →
+      ((k : ℕ) → j < k → k < q.stages → now.full k ≡ true → IsSpent q.proc.behavior (brought now k).state (stage_by x q now closed_ports k)) →
+      j + length cycles ≡ q.stage i →
+      (others : List Event) × (asserted_by (stage_by x q (cycles_by x q since cycles).contents ports (q.stage i)) ≡ event ∷ others)

@@ -1,16 +1,17 @@
 //! Laws of pipelined hardware, each the contract of a function without a body. For proofs of other crates they are lemmas
 //! of the same names in `proofs/Lemmas.antt`.
 
-ghost use Rattle.std.specs.Prelude.{◌≡◌, ◌≤◌, ◌<◌, ◌-◌, ℕ, suc, true, List, [], ◌∷◌, length, false, Some, ◌==◌, if◌then◌else◌, option_to_list};
+ghost use Rattle.std.specs.Prelude.{◌≡◌, ◌≤◌, ◌<◌, ◌+◌, ◌*◌, nat_lt, ℕ, suc, true, List, [], ◌∷◌, length, false, Some, ◌==◌, if◌then◌else◌, option_to_list};
 ghost use Rattle.xb_bits.specs.Word.{Word};
 ghost use Rattle.net_core.specs.declared.event.Event.{Event};
 ghost use Rattle.net_core.specs.Trace.{trace};
 ghost use Rattle.base.specs.Lists.Prefix.{IsPrefix};
 ghost use Rattle.net_core.specs.Cuts.{words_sent, count_received};
 ghost use Rattle.block_stage.specs.Machine.Pipeline.{Pipeline, IsPipeline, ReceivesNowhere};
-ghost use Rattle.block_stage.specs.Machine.Cycle.{Ports, Registers, in_stage, moves, asserted_by, asserted_in, after_cycle, transfers_in};
+ghost use Rattle.block_stage.specs.Machine.Cycle.{Ports, Registers, brought, in_stage, moves, asserted_by, asserted_in, after_cycle, transfers_in};
 ghost use Rattle.block_stage.specs.Machine.Since.{took, gave, at_reset, after_cycles};
 ghost use Rattle.block_stage.specs.Machine.Steady.{IsStageMet, AreFed, SendsOnce};
+ghost use Rattle.block_stage.specs.Machine.Next.{closed_ports, IsNextEvent, IsSpent};
 
 /// Whatever stands at the ports in each cycle since reset: the words sent on a channel are a prefix of those that the
 /// proc's trace sends there over the words received. The trace may be of as many activations as cycles, or more.
@@ -92,11 +93,35 @@ pub fn nothing_is_asked_without_an_activation()
     ensures { (q : Pipeline) (now : Registers) (ports : Ports) → ((j : ℕ) → now.full j ≡ false) → asserted_in q now ports ≡ [] }
 {}
 
-/// A pipeline that keeps the turn in stage 0, and in each cycle finds a word at each end at which it receives and room at
-/// each at which it sends: where each activation sends one word on a channel, word `i` moves exactly in cycle `i + s`,
-/// `s` the stage of the sending site. So in the first `k` cycles `k - s` words move, or none while `k` is less.
+/// A pipeline that in each cycle finds a word at each end at which it receives and room at each at which it sends: where each
+/// activation sends one word on a channel, word `i` moves exactly in cycle `i * interval + s`. The interval is one more than
+/// the stage at whose end an activation gives the turn back, and `s` is the stage of the sending site.
 pub fn always_fed_words_move_in_their_cycle()
-    ensures { (q : Pipeline) → IsPipeline q → q.last ≡ 0 → (chan place : ℕ) → SendsOnce q chan place →
-        (cycles : List Ports) → AreFed q cycles →
-        length ((after_cycles q (at_reset q) cycles).sent chan) ≡ length cycles - q.stage place }
+    ensures { (q : Pipeline) → IsPipeline q → (chan place : ℕ) → SendsOnce q chan place →
+        (cycles : List Ports) → AreFed q cycles → (i : ℕ) →
+        nat_lt i (length ((after_cycles q (at_reset q) cycles).sent chan)) ≡ nat_lt (i * suc q.last + q.stage place) (length cycles) }
+{}
+
+/// Nothing that went before keeps a pipeline from going on. Once it finds in each cycle a word at each end at which it receives
+/// and room at each at which it sends, and each activation sends one word on a channel, `i + 1` words more have moved there by
+/// the end of cycle `(i + 1) * interval + s` from then on.
+pub fn words_move_once_fed()
+    ensures { (q : Pipeline) → IsPipeline q → (chan place : ℕ) → SendsOnce q chan place →
+        (past cycles : List Ports) → AreFed q cycles → (i : ℕ) →
+        let since = after_cycles q (at_reset q) past in
+        suc i * suc q.last + q.stage place < length cycles →
+        length (since.sent chan) + i < length ((after_cycles q since cycles).sent chan) }
+{}
+
+/// An activation comes to its next event in time: where those in later stages have none left, whatever stands at the ports, the
+/// event is asserted after as many cycles as there are stages from where the activation stands to that of the event's site.
+pub fn the_next_event_is_asserted_in_time()
+    ensures { (q : Pipeline) → IsPipeline q → (past cycles : List Ports) (ports : Ports) (j i : ℕ) (event : Event) → j < q.stages →
+        let since = after_cycles q (at_reset q) past in
+        let now = since.contents in
+        now.full j ≡ true →
+        IsNextEvent q.proc.behavior (brought now j).state (in_stage q now closed_ports j) i event →
+        ((k : ℕ) → j < k → k < q.stages → now.full k ≡ true → IsSpent q.proc.behavior (brought now k).state (in_stage q now closed_ports k)) →
+        j + length cycles ≡ q.stage i →
+        (others : List Event) × (asserted_by (in_stage q (after_cycles q since cycles).contents ports (q.stage i)) ≡ event ∷ others) }
 {}
