@@ -1,2 +1,4 @@
--- what is settled
-pub mod Settled
+-- what crates above take by name
+pub mod Lemmas
+-- names of fields
+pub mod OnFields

@@ -1,6 +1,6 @@
 -- What a typing in code is the judgement of, and what a function of nodes promises: from judgements of the parts to that of the node,
 -- in each table of types that begins with the one it leaves.
-use Rattle.std.specs.Prelude.{ℕ, List, ◌≡◌, Option}
+use Rattle.std.specs.Prelude.{ℕ, List, [], ◌∷◌, ◌≡◌, map, Option, Some, None}
 use Rattle.base.specs.Lists.Prefix.{IsPrefix}
 use Rattle.xb_span.specs.declared.span.Span.{Span}
 use Rattle.xb_span.specs.declared.fault.Fault.{Fault}
@@ -15,6 +15,7 @@ use Rattle.dslx_check_rules.specs.Seen.{seen, capped}
 use Rattle.dslx_check_rules.specs.Interned.{AreDistinct, HasRowIf, ItemNames, type_if}
 use Rattle.dslx_check_nodes.specs.declared.parts.ConstantTyping.{ConstantTyping}
 use Rattle.dslx_check_nodes.specs.declared.parts.CountTyping.{CountTyping}
+use Rattle.dslx_check_nodes.specs.declared.parts.Spanned.{Spanned}
 
 -- ---- one part
 
@@ -39,6 +40,43 @@ pub record IsSliceBound (names : ItemNames) (later : List TypeRow) (bound : Cons
 pub record IsCount (names : ItemNames) (rows later : List TypeRow) (n : CountTyping) (found : CountSeen) : Type 0 where
   pub part : IsPart names rows later n.typing found.judgement
   pub count : n.count ≡ found.count
+
+-- a part that may be missing
+abbrev pub IsPartIf : ItemNames → List TypeRow → List TypeRow → Option Typing → Option Judgement → Type 0
+IsPartIf names rows later None None = Unit {0}
+IsPartIf names rows later None (Some x) = ⊥
+IsPartIf names rows later (Some typing) None = ⊥
+IsPartIf names rows later (Some typing) (Some x) = IsPart names rows later typing x
+
+-- ---- several parts
+
+-- the two lists are equally long, and this is so of each two
+abbrev pub Pairs : {A B : Type 0} → (A → B → Type 0) → List A → List B → Type 0
+Pairs is [] [] = Unit {0}
+Pairs is [] (b ∷ bs) = ⊥
+Pairs is (a ∷ as') [] = ⊥
+Pairs is (a ∷ as') (b ∷ bs) = is a b × Pairs is as' bs
+
+-- a judgement at its place
+pub record Placed : Type 0 where
+  pub span : Span
+  pub judgement : Judgement
+
+abbrev pub judgements : List Placed → List Judgement
+judgements xs = map (λ (x : Placed). x.judgement) xs
+
+pub record IsPlaced (names : ItemNames) (rows later : List TypeRow) (spanned : Spanned) (x : Placed) : Type 0 where
+  pub span : spanned.span ≡ x.span
+  pub part : IsPart names rows later spanned.typing x.judgement
+
+abbrev pub ArePlaced : ItemNames → List TypeRow → List TypeRow → List Spanned → List Placed → Type 0
+ArePlaced names rows later parts xs = Pairs (IsPlaced names rows later) parts xs
+
+abbrev pub IsPlacedIf : ItemNames → List TypeRow → List TypeRow → Option Spanned → Option Placed → Type 0
+IsPlacedIf names rows later None None = Unit {0}
+IsPlacedIf names rows later None (Some x) = ⊥
+IsPlacedIf names rows later (Some part) None = ⊥
+IsPlacedIf names rows later (Some part) (Some x) = IsPlaced names rows later part x
 
 -- ---- what functions of nodes promise
 
@@ -66,6 +104,15 @@ pub record CountFrom (half : ConstantSeen → CountSeen) (rows : List TypeRow) (
 pub record FromSlice (half : Judgement → ConstantSeen → ConstantSeen → Judgement) (old new : List TypeRow) (a : Typing) (from to : ConstantTyping) (result : Typing) : Type 0 where
   pub typed : (names : ItemNames) (later : List TypeRow) → AreDistinct names → IsPrefix new later → (x : Judgement) (y z : ConstantSeen) → IsPart names old later a x
       → IsConstant names old later from y → IsConstant names old later to z → IsPart names new later result (half x y z)
+
+-- from several parts
+pub record FromAll (half : List Placed → Judgement) (old new : List TypeRow) (parts : List Spanned) (result : Typing) : Type 0 where
+  pub typed : (names : ItemNames) (later : List TypeRow) → AreDistinct names → IsPrefix new later → (xs : List Placed) → ArePlaced names old later parts xs → IsPart names new later result (half xs)
+
+-- from a part and a width
+pub record FromPartAndCount (half : Judgement → CountSeen → Judgement) (old new : List TypeRow) (a : Typing) (n : CountTyping) (result : Typing) : Type 0 where
+  pub typed : (names : ItemNames) (later : List TypeRow) → AreDistinct names → IsPrefix new later → (x : Judgement) (y : CountSeen) → IsPart names old later a x
+      → IsCount names old later n y → IsPart names new later result (half x y)
 
 -- what a node of these comes to is settled
 pub record Settles (span : Span) (rows : List TypeRow) (ty : Option TypeId) (faults : Faults) (size : Option ℕ) (result : Typing) : Type 0 where

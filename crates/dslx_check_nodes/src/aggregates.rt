@@ -7,7 +7,7 @@ ghost use Rattle.dslx_meaning.specs.Rules.TypeEnvs.{no_token as no_token_at};
 ghost use Rattle.dslx_meaning.specs.Rules.AggregateRules as the;
 ghost use Rattle.dslx_meaning.specs.declared.ty.DslxType.{DslxType};
 ghost use Rattle.dslx_check_rules.specs.Seen.{seen};
-ghost use Rattle.dslx_check_rules.specs.Interned.{HasRow, HasRowIf, ItemNames, type_at, type_if};
+ghost use Rattle.dslx_check_rules.specs.Interned.{HasRow, HasRowIf, ItemNames, KeepsItems, type_at, type_if};
 ghost use Rattle.dslx_check_rules.specs.declared.table.row.TypeRow.{TypeRow as Row};
 ghost use Rattle.dslx_check_nodes.specs.Parts.{FromNone, FromOne, FromTwo};
 ghost use Rattle.dslx_check_nodes.specs.Nodes.Aggregates as half;
@@ -52,6 +52,7 @@ fn is_token_held(types: &TypeTable, ty: Option<TypeId>) -> bool
 /// `true` or `false`.
 pub fn bool_node(types: &mut TypeTable, span: Span) -> Result<Typing, AllocError>
     ensures typed { IfOk result (λ j. FromNone (half.bool_node span) types.new j) }
+    ensures items { OnOk result (KeepsItems types.old types.new) }
     ensures grows { OnOk result (IsPrefix types.old types.new) }
     ensures stays { OnErr result (types.new ≡ types.old) }
 {

@@ -4,7 +4,7 @@ ghost use Rattle.std.specs.Prelude.{◌≡◌, List, IfOk, OnOk, OnErr};
 ghost use Rattle.base.specs.Lists.Prefix.{IsPrefix};
 ghost use Rattle.dslx_meaning.specs.Rules.ConstantRules as the;
 ghost use Rattle.dslx_check_rules.specs.Seen.{seen};
-ghost use Rattle.dslx_check_rules.specs.Interned.{HasRowIf, ItemNames, type_if};
+ghost use Rattle.dslx_check_rules.specs.Interned.{HasRowIf, ItemNames, KeepsItems, type_if};
 ghost use Rattle.dslx_check_rules.specs.declared.table.row.TypeRow.{TypeRow as Row};
 ghost use Rattle.dslx_check_nodes.specs.Parts.{CountFrom, FromCount};
 ghost use Rattle.dslx_check_nodes.specs.Nodes.Counts as half;
@@ -90,6 +90,7 @@ pub fn wide_typing(
     width: CountTyping,
 ) -> Result<Typing, AllocError>
     ensures typed { IfOk result (λ j. FromCount (half.wide_of span signed) types.old types.new width j) }
+    ensures items { OnOk result (KeepsItems types.old types.new) }
     ensures grows { OnOk result (IsPrefix types.old types.new) }
     ensures stays { OnErr result (types.new ≡ types.old) }
 {

@@ -5,10 +5,12 @@
 #![tactic(auto)]
 
 pub mod aggregates;
+pub mod arrays;
 pub mod counts;
 pub mod lists;
 pub mod operators;
 mod parts;
+pub mod structs;
 pub mod written;
 
-pub use parts::{ConstantTyping, CountTyping, Spanned};
+pub use parts::{ConstantTyping, CountTyping, Spanned, both, either, settle};

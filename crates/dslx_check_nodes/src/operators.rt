@@ -6,7 +6,7 @@ ghost use Rattle.dslx_meaning.specs.Lists.{and_then};
 ghost use Rattle.dslx_meaning.specs.Rules.ConstantRules.{ConstantSeen};
 ghost use Rattle.dslx_meaning.specs.Rules.OperatorRules as the;
 ghost use Rattle.dslx_check_rules.specs.Seen.{seen};
-ghost use Rattle.dslx_check_rules.specs.Interned.{HasRowIf, ItemNames, type_if};
+ghost use Rattle.dslx_check_rules.specs.Interned.{HasRowIf, ItemNames, KeepsItems, type_if};
 ghost use Rattle.dslx_check_rules.specs.declared.table.row.TypeRow.{TypeRow as Row};
 ghost use Rattle.dslx_check_nodes.specs.Parts.{FromOne, FromSlice, IsSliceBound, FromTwo, FromThree};
 ghost use Rattle.dslx_check_nodes.specs.Nodes.Operators.{prefix_of, binary_of, cast_of, part_of, slice_of, bound_of, is_wrong_bound_of, type_between};
@@ -45,6 +45,7 @@ pub fn binary_typing(
     right: Spanned,
 ) -> Result<Typing, AllocError>
     ensures typed { IfOk result (λ j. FromTwo (binary_of span op left.span right.span) types.old types.new left.typing right.typing j) }
+    ensures items { OnOk result (KeepsItems types.old types.new) }
     ensures grows { OnOk result (IsPrefix types.old types.new) }
     ensures stays { OnErr result (types.new ≡ types.old) }
 {
@@ -80,7 +81,7 @@ pub fn cast_typing(types: &TypeTable, span: Span, value: Typing, target: Typing)
 }
 
 /// The second one where the first one is there.
-fn if_there(first: Option<TypeId>, second: Option<TypeId>) -> Option<TypeId>
+pub fn if_there(first: Option<TypeId>, second: Option<TypeId>) -> Option<TypeId>
     ensures { result ≡ and_then first (λ t. second) }
 {
     match first {
@@ -123,6 +124,7 @@ pub fn slice_typing(
     to: &ConstantTyping,
 ) -> Result<Typing, AllocError>
     ensures typed { IfOk result (λ j. FromSlice (slice_of span) types.old types.new whole from.now to.now j) }
+    ensures items { OnOk result (KeepsItems types.old types.new) }
     ensures grows { OnOk result (IsPrefix types.old types.new) }
     ensures stays { OnErr result (types.new ≡ types.old) }
 {
@@ -147,6 +149,7 @@ fn sliced_type(
 ) -> Result<Option<TypeId>, AllocError>
     ensures is { IfOk result (λ ty. (names : ItemNames) (later : List Row) → IsPrefix types.new later → type_if names later ty ≡ and_then (type_if names later whole) (λ t. type_between from to)) }
     ensures there { IfOk result (λ ty. HasRowIf types.new ty) }
+    ensures items { OnOk result (KeepsItems types.old types.new) }
     ensures grows { OnOk result (IsPrefix types.old types.new) }
     ensures stays { OnErr result (types.new ≡ types.old) }
 {

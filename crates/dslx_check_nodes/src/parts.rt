@@ -1,5 +1,6 @@
 //! Typings of parts, and that of a node from what is found of it.
 
+ghost use Rattle.std.specs.Prelude.{◌≡◌, ◌&&◌, ◌||◌};
 ghost use Rattle.dslx_check_nodes.specs.Parts.{Settles, Unlimits};
 
 use dslx_check_rules::{Faults, TypeId, TypeTable, Typing, settled, unlimited};
@@ -30,7 +31,7 @@ pub struct CountTyping {
 }
 
 /// A node of this type, with the limits on it.
-pub(crate) fn settle(
+pub fn settle(
     types: &TypeTable,
     span: Span,
     ty: Option<TypeId>,
@@ -47,4 +48,18 @@ pub(crate) fn unlimit(ty: Option<TypeId>, faults: Faults, size: Option<u32>) -> 
     ensures { Unlimits ty faults size result }
 {
     unlimited(ty, faults, size)
+}
+
+/// Whether both are so.
+pub fn both(a: bool, b: bool) -> bool
+    ensures { result ≡ (a && b) }
+{
+    a && b
+}
+
+/// Whether one of the two is so.
+pub fn either(a: bool, b: bool) -> bool
+    ensures { result ≡ (a || b) }
+{
+    a || b
 }

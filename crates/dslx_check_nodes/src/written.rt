@@ -1,18 +1,21 @@
 //! Written types from their parts.
 
-ghost use Rattle.std.specs.Prelude.{◌≡◌, false, List, IfOk, OnOk, OnErr};
+ghost use Rattle.std.specs.Prelude.{◌≡◌, false, List, Some, IfOk, OnOk, OnErr};
 ghost use Rattle.base.specs.Lists.Prefix.{IsPrefix};
+ghost use Rattle.dslx_meaning.specs.Lists.{with_both};
 ghost use Rattle.dslx_meaning.specs.declared.ty.DslxType as ty;
 ghost use Rattle.dslx_meaning.specs.Rules.TypeRules as the;
-ghost use Rattle.dslx_check_nodes.specs.Parts.{FromNone, FromOne};
-ghost use Rattle.dslx_check_nodes.specs.Nodes.Written.{inside};
+ghost use Rattle.dslx_check_rules.specs.Interned.{HasRowIf, ItemNames, KeepsItems, type_if};
+ghost use Rattle.dslx_check_rules.specs.declared.table.row.TypeRow.{TypeRow as Row};
+ghost use Rattle.dslx_check_nodes.specs.Parts.{FromAll, FromNone, FromOne, FromPartAndCount};
+ghost use Rattle.dslx_check_nodes.specs.Nodes.Written.{inside, tuple_type_of};
 
 use crate::counts::zero_faults;
-use crate::lists::unit_faults;
-use crate::parts::settle;
-use dslx_check_rules::{Faults, TypeTable, Typing};
+use crate::lists::{array_of, element_typings, tuple_of};
+use crate::parts::{CountTyping, Spanned, settle};
+use dslx_check_rules::{Faults, TypeId, TypeTable, Typing, is_unit, unit_faults};
 use dslx_meaning::BitKind;
-use std::alloc::AllocError;
+use std::alloc::{AllocError, Global};
 use xb_span::Span;
 
 /// Bits of a width that is written in their name, where no text writes 0.
@@ -23,6 +26,7 @@ pub fn bits_type(
     width: u128,
 ) -> Result<Typing, AllocError>
     ensures typed { IfOk result (λ j. FromNone (the.named_bits span signed width) types.new j) }
+    ensures items { OnOk result (KeepsItems types.old types.new) }
     ensures grows { OnOk result (IsPrefix types.old types.new) }
     ensures stays { OnErr result (types.new ≡ types.old) }
 {
@@ -34,6 +38,7 @@ pub fn bits_type(
 /// `bool`
 pub fn bool_type(types: &mut TypeTable, span: Span) -> Result<Typing, AllocError>
     ensures typed { IfOk result (λ j. FromNone (the.whole_type span (ty.Bits false 1)) types.new j) }
+    ensures items { OnOk result (KeepsItems types.old types.new) }
     ensures grows { OnOk result (IsPrefix types.old types.new) }
     ensures stays { OnErr result (types.new ≡ types.old) }
 {
@@ -50,4 +55,68 @@ pub fn inner_type(types: &TypeTable, span: Span, part: Typing) -> Typing
 {
     let own = unit_faults(types, span, part.ty);
     part.with(own)
+}
+
+/// A tuple of these types, none of which may be `()`.
+pub fn tuple_type(
+    alloc: Global,
+    types: &mut TypeTable,
+    span: Span,
+    parts: &[Spanned],
+) -> Result<Typing, AllocError>
+    ensures typed { IfOk result (λ j. FromAll (tuple_type_of span) types.old types.new parts.now j) }
+    ensures items { OnOk result (KeepsItems types.old types.new) }
+    ensures grows { OnOk result (IsPrefix types.old types.new) }
+    ensures stays { OnErr result (types.new ≡ types.old) }
+{
+    let all = element_typings(types, parts);
+    let ty = tuple_of(alloc, types, parts)?;
+    Ok(settle(types, span, ty, all.faults, Some(0)))
+}
+
+/// An array of so many of a type.
+pub fn array_type(
+    types: &mut TypeTable,
+    span: Span,
+    part: Typing,
+    count: CountTyping,
+) -> Result<Typing, AllocError>
+    ensures typed { IfOk result (λ j. FromPartAndCount (the.array_of span) types.old types.new part count j) }
+    ensures items { OnOk result (KeepsItems types.old types.new) }
+    ensures grows { OnOk result (IsPrefix types.old types.new) }
+    ensures stays { OnErr result (types.new ≡ types.old) }
+{
+    let faults = part.faults.and(count.typing.faults);
+    let ty = counted(types, part.ty, count.count)?;
+    Ok(settle(types, span, ty, faults, Some(0)))
+}
+
+/// The type of arrays of so many of these, where it is known how many.
+fn counted(
+    types: &mut TypeTable,
+    part: Option<TypeId>,
+    count: Option<u128>,
+) -> Result<Option<TypeId>, AllocError>
+    ensures is { IfOk result (λ t. (names : ItemNames) (later : List Row) → IsPrefix types.new later
+        → type_if names later t ≡ with_both (type_if names later part) count (λ u n. Some (ty.Array u n))) }
+    ensures there { IfOk result (λ t. HasRowIf types.new t) }
+    ensures items { OnOk result (KeepsItems types.old types.new) }
+    ensures grows { OnOk result (IsPrefix types.old types.new) }
+    ensures stays { OnErr result (types.new ≡ types.old) }
+{
+    match count {
+        Some(count) => array_of(types, part, count),
+        None => Ok(None),
+    }
+}
+
+/// A type where `()` is none.
+pub fn unless_unit(types: &TypeTable, ty: Option<TypeId>) -> Option<TypeId>
+    ensures is { (names : ItemNames) (later : List Row) → IsPrefix types.now later → HasRowIf types.now ty → type_if names later result ≡ the.unless_unit (type_if names later ty) }
+    ensures there { HasRowIf types.now ty → HasRowIf types.now result }
+{
+    match ty {
+        Some(ty) => if is_unit(types, ty) { None } else { Some(ty) },
+        None => None,
+    }
 }

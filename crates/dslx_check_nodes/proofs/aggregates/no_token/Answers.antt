@@ -3,7 +3,7 @@ use Rattle.dslx_meaning.specs.Rules.TypeEnvs.{Judgement, breaks}
 use Rattle.dslx_meaning.specs.Rules.RuleNumbers as rule
 use Rattle.dslx_check_nodes.specs.Nodes.Aggregates.{holds_token_if}
 use Rattle.dslx_check_nodes.specs.Parts.{IsPart}
-use Rattle.dslx_check_nodes.proofs.Settled.{token_passed, token_refused}
+use Rattle.dslx_check_nodes.proofs.Lemmas.Settled.{token_passed, token_refused}
 use Rattle.dslx_check_nodes.proofs.aggregates.no_token.Goals as goal
 
 pub returns-then-is_token_held : goal.returns-then-is_token_held

@@ -2,7 +2,7 @@ use Rattle.std.proofs.Common.{◌≡◌, ◌∙◌, ◌<◌, arith, false, sym, 
 use Rattle.dslx_meaning.specs.Rules.TypeEnvs.{Judgement}
 use Rattle.dslx_check_nodes.specs.Nodes.Aggregates.{is_tuple_if}
 use Rattle.dslx_check_nodes.specs.Parts.{IsPart}
-use Rattle.dslx_check_nodes.proofs.Settled.{apart_by}
+use Rattle.dslx_check_nodes.proofs.Lemmas.Settled.{apart_by}
 use Rattle.dslx_check_nodes.proofs.aggregates.taken_apart.Goals.{else-place-lt2-via-then-place-lt2+else-is_some_tuple, else-place-lt2-via-else-place-lt2}
 use Rattle.dslx_check_nodes.proofs.aggregates.taken_apart.Goals as goal
 

@@ -4,7 +4,7 @@ use Rattle.dslx_meaning.specs.Rules.ConstantRules.{count_faults, count_number, c
 use Rattle.dslx_check_rules.specs.Interned.{HasRowIf, type_if}
 use Rattle.dslx_check_rules.specs.Seen.{seen}
 use Rattle.dslx_check_nodes.specs.Nodes.Counts.{above_zero, number_of}
-use Rattle.dslx_check_nodes.proofs.Settled.{count_number_is}
+use Rattle.dslx_check_nodes.proofs.Lemmas.Settled.{count_number_is}
 use Rattle.dslx_check_nodes.proofs.counts.count_typing.Goals as goal
 
 pub returns : goal.returns

@@ -2,6 +2,8 @@ use Rattle.std.proofs.Common.{◌∙◌, Some, refl, sym, ap}
 use Rattle.base.proofs.Lemmas.Lists.Prefixes.{IsPrefix-refl}
 use Rattle.dslx_meaning.specs.Lists.{and_then}
 use Rattle.dslx_meaning.specs.declared.ty.DslxType as ty
+use Rattle.dslx_check_rules.specs.declared.table.row.TypeRow.TheVariants as row
+use Rattle.dslx_check_nodes.proofs.Lemmas.Lists.{with_row_kept}
 use Rattle.dslx_check_nodes.proofs.counts.wide_typing.Goals as goal
 
 pub returns-in_ok-ty-in-Some-clause-typed : goal.returns-in_ok-ty-in-Some-clause-typed
@@ -22,3 +24,7 @@ returns-in-None-clause-typed c = record {
 
 pub returns-in-None-clause-grows : goal.returns-in-None-clause-grows
 returns-in-None-clause-grows c = IsPrefix-refl c.args.types.now
+
+pub returns-in_ok-ty-in-Some-clause-items : goal.returns-in_ok-ty-in-Some-clause-items
+returns-in_ok-ty-in-Some-clause-items c =
+    with_row_kept c.args.types.now c.bits.new.self (row.Bits (record { signed = c.args.signed; width = c.in-Some.count })) refl c.in_ok-ty-in-Some.ensures.rows

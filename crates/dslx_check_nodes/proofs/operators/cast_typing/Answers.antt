@@ -5,7 +5,7 @@ use Rattle.dslx_meaning.specs.Rules.TypeEnvs.{one_and}
 use Rattle.dslx_meaning.specs.Rules.OperatorRules.{is_bits, is_bits_or_enum, unless_type}
 use Rattle.dslx_meaning.specs.Rules.RuleNumbers as rule
 use Rattle.dslx_check_rules.specs.Seen.{seen}
-use Rattle.dslx_check_nodes.proofs.Settled.{row_behind, type_behind}
+use Rattle.dslx_check_nodes.proofs.Lemmas.Settled.{row_behind, type_behind}
 use Rattle.dslx_check_nodes.proofs.operators.cast_typing.Goals as goal
 
 pub returns : goal.returns

@@ -7,7 +7,7 @@ use Rattle.dslx_meaning.specs.Rules.TypeEnvs.{one_and, plus_size}
 use Rattle.dslx_meaning.specs.Rules.OperatorRules.{bound_number, slice_faults}
 use Rattle.dslx_check_rules.specs.Seen.{seen}
 use Rattle.dslx_check_nodes.specs.Nodes.Operators.{bound_of, type_between}
-use Rattle.dslx_check_nodes.proofs.Settled.{bound_number_is}
+use Rattle.dslx_check_nodes.proofs.Lemmas.Settled.{bound_number_is}
 use Rattle.dslx_check_nodes.proofs.operators.slice_typing.Goals as goal
 
 pub returns-clause-typed : goal.returns-clause-typed

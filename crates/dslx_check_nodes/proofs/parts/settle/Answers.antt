@@ -2,7 +2,7 @@ use Rattle.std.proofs.Common.{◌≡◌, ◌∙◌, ap}
 use Rattle.dslx_meaning.specs.Rules.TypeEnvs.{settled}
 use Rattle.dslx_check_rules.specs.Seen.{seen}
 use Rattle.dslx_check_rules.specs.Interned.{type_at, type_if}
-use Rattle.dslx_check_nodes.proofs.Settled.{sized}
+use Rattle.dslx_check_nodes.proofs.Lemmas.Settled.{sized}
 use Rattle.dslx_check_nodes.proofs.parts.settle.Goals as goal
 
 pub returns : goal.returns

@@ -1,7 +1,7 @@
 use Rattle.std.proofs.Common.{◌≡◌, ◌∙◌, ap}
 use Rattle.dslx_meaning.specs.Rules.TypeEnvs.{unlimited}
 use Rattle.dslx_check_rules.specs.Interned.{type_at, type_if}
-use Rattle.dslx_check_nodes.proofs.Settled.{sized}
+use Rattle.dslx_check_nodes.proofs.Lemmas.Settled.{sized}
 use Rattle.dslx_check_nodes.proofs.parts.unlimit.Goals as goal
 
 pub returns : goal.returns
