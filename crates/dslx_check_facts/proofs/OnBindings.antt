@@ -1,0 +1,2 @@
+-- from the last name on
+pub mod Ends

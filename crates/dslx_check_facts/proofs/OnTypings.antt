@@ -1,0 +1,2 @@
+-- typings with limits
+pub mod Settled
