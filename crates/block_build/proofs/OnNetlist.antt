@@ -1,5 +1,7 @@
 -- lists of wires
 pub mod OnWires
+-- what they promise when more are put behind them
+pub mod OnAdded
 -- bits
 pub mod OnGates
 -- a stage's sites
@@ -26,6 +28,8 @@ pub mod OnEnds
 pub mod OnOperators
 -- what they give
 pub mod OnGiving
+-- what is put for them
+pub mod OnOperating
 -- values on signals
 pub mod OnLeaves
 -- choices between values

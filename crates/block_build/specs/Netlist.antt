@@ -1,5 +1,9 @@
 -- wires, and what they carry
 pub mod Wires
+-- what a list promises when wires are put behind it
+pub mod Added
+-- numbers that are written out
+pub mod Literals
 -- wires of one bit
 pub mod Gates
 -- the wires of a stage's sites

@@ -79,12 +79,12 @@ fifo_sides v end fifo depth words m h =
     record {
       valid =
           ap (atom_value v) m.valid
-          ∙ operated binary.NotEqual (v (there_net fifo)) (atom_value v fifo.count) (atom_value v (fifo.number 0)) (word fifo.count_width (length words)) (word fifo.count_width 0) m.is.count.0 h.count (m.numbers 0 (omega arith))
+          ∙ operated binary.NotEqual (v (there_net fifo)) (atom_value v fifo.count) (atom_value v (fifo.number 0)) (word fifo.count_width (length words)) (word fifo.count_width 0) m.is.view.0 h.count (m.numbers 0 (omega arith))
           ∙ ap bit (row_word (fifo_row v fifo words) words holds);
       word = λ w e. ap (atom_value v) m.word ∙ row_first (fifo_row v fifo words) words w holds e;
       room =
           ap (atom_value v) m.room
-          ∙ operated binary.NotEqual (v (room_net fifo)) (atom_value v fifo.count) (atom_value v (fifo.number fifo.depth)) (word fifo.count_width (length words)) (word fifo.count_width fifo.depth) m.is.count.1.0 h.count (m.numbers fifo.depth (omega arith))
+          ∙ operated binary.NotEqual (v (room_net fifo)) (atom_value v fifo.count) (atom_value v (fifo.number fifo.depth)) (word fifo.count_width (length words)) (word fifo.count_width fifo.depth) m.is.view.1.0 h.count (m.numbers fifo.depth (omega arith))
           ∙ ap bit (row_room fifo.depth (fifo_row v fifo words) words holds h.few) ∙ ap (λ d. bit (list_room d words)) m.deep;
     }
 

@@ -1,5 +1,5 @@
 -- What the wires of a choice between values show.
-use Rattle.std.proofs.Common.{◌≡◌, ℕ, suc, ◌/◌, ◌%◌, ◌<◌, ◌≤◌, ◌^◌, List, [], ◌∷◌, ◌++◌, map, length, get_or, Bool, true, false, refl, sym, ap, ap₂, ◌∙◌, arith, cond, nat_lt, Some, append-nil}
+use Rattle.std.proofs.Common.{◌≡◌, ℕ, suc, ◌+◌, ◌/◌, ◌%◌, ◌<◌, ◌≤◌, ◌^◌, List, [], ◌∷◌, ◌++◌, map, length, get_or, Bool, true, false, refl, sym, ap, ap₂, ◌∙◌, arith, cond, nat_lt, Some, append-nil}
 use Rattle.std.specs.Prelude.{◌==◌}
 use Rattle.std.proofs.lemmas.Bool.Decides.{nat_tests}
 use Rattle.std.proofs.lemmas.Nat.{pow_pos}
@@ -7,7 +7,7 @@ use Rattle.xb_bits.specs.Word.{Word, word}
 use Rattle.xb_bits.specs.Operations as op
 use Rattle.xb_value.specs.declared.value.Value.{Value, Tuple}
 use Rattle.xb_value.specs.Unflat.{unflat_of}
-use Rattle.xb_value.specs.Width.{width_of, HasWidths}
+use Rattle.xb_value.specs.Width.{width_of}
 use Rattle.net_core.specs.Behavior.{IsWordOf}
 use Rattle.ir_tree.specs.Constants.{no_value}
 use Rattle.ir_tree.specs.NodeValues.{heard, received, no_word, channel_type}
@@ -16,16 +16,17 @@ use Rattle.ir_tree.specs.declared.ir_type.IrType.{IrType}
 use Rattle.ir_tree.specs.declared.package.Channel.{Channel}
 use Rattle.vlog_tree.specs.declared.expression.Atom.{Atom}
 use Rattle.vlog_tree.specs.declared.expression.Binary.TheVariants as binary
+use Rattle.vlog_tree.specs.declared.expression.Simple.{Simple}
 use Rattle.vlog_tree.specs.Value.{Values, bit, atom_value, simple_value}
 use Rattle.block_build.specs.Netlist.Wires.{AreWired}
 use Rattle.block_build.specs.Netlist.Gates.{net}
-use Rattle.block_build.specs.Netlist.Leaves.{leaves_of, ShowsValue, nets, leaf_widths, total_width, cut_into, AreSome}
+use Rattle.block_build.specs.Netlist.Leaves.{leaves_of, ShowsValue, nets, leaf_widths, cut_into}
 use Rattle.block_build.specs.Netlist.Operators.{part_of}
-use Rattle.block_build.specs.Netlist.Choices.{choice_wires, pick_wires, chosen_below, receive_wires}
+use Rattle.block_build.specs.Netlist.Choices.{choice_wires, pick_wires, chosen_below}
 use Rattle.block_build.specs.Netlist.Holding.{AreCarriedOn}
 use Rattle.block_build.proofs.OnNetlist.OnGates.{choice, operated}
 use Rattle.block_build.proofs.OnNetlist.OnOperators.{part_carries}
-use Rattle.block_build.proofs.OnNetlist.OnLeaves.{leaves-Tuple, unflat_is_cut, total_is, leaves_are_some}
+use Rattle.block_build.proofs.OnNetlist.OnLeaves.{leaves-Tuple, unflat_is_cut}
 
 -- ---- each number of the one or the other
 
@@ -103,17 +104,15 @@ part_is : (t : Bool) (w m n : ℕ) (z : Word) → z ≡ cond t (word w (n / 2 ^ 
 part_is true w m n z e = e
 part_is false w m n z e = e ∙ zeros_cut w m
 
-pub receive_carries : (v : Values) (all s k : ℕ) (on : Atom) (zeros : ℕ → Atom) (ws : List ℕ) (t : Bool) (x : Word) → AreWired v k (receive_wires all s on zeros ws)
-    → v s ≡ x → x.width ≡ all → x.value < 2 ^ x.width → total_width ws ≤ all → AreSome ws → atom_value v on ≡ bit t → ((w : ℕ) → atom_value v (zeros w) ≡ word w 0)
-    → map (atom_value v) (nets k (length ws)) ≡ cut_into ws (cond t x.value 0)
-receive_carries v all s k on zeros [] t x h e w r l some o z = refl
-receive_carries v all s k on zeros (u ∷ ws) t x h e w r l some o z =
-    let part = part_carries v all s (total_width ws) u x e w r some.0 (omega (arith, l)) in
-    let here : v k ≡ cond t (word u (x.value / 2 ^ total_width ws % 2 ^ u)) (word u 0) =
-    choice (v k) (atom_value v on) (simple_value v (part_of all s (total_width ws) u)) (atom_value v (zeros u)) t h.0 o
-    ∙ ap (λ y. cond t y (atom_value v (zeros u))) part ∙ ap (λ y. cond t (op.slice x (total_width ws) u) y) (z u) in
-    ap₂ (λ y ys. y ∷ ys) (part_is t u (total_width ws) x.value (v k) here)
-    (receive_carries v all s (suc k) on zeros ws t x h.1 e w r (omega (arith, l)) some.1 o z)
+-- one number of the word
+pub received_part : (v : Values) (all s k u low : ℕ) (on : Atom) (y : Simple) (zeros : Atom) (t : Bool) (x : Word) → v k ≡ cond ((atom_value v on).value == 0) (atom_value v zeros) (simple_value v y)
+    → y ≡ part_of all s low u → v s ≡ x → IsWordOf all x → 1 ≤ u → low + u ≤ all → atom_value v on ≡ bit t → atom_value v zeros ≡ word u 0
+    → v k ≡ word u (cond t x.value 0 / 2 ^ low % 2 ^ u)
+received_part v all s k u low on y zeros t x h is e i some l o z =
+    part_is t u low x.value (v k)
+    (choice (v k) (atom_value v on) (simple_value v y) (atom_value v zeros) t h o
+    ∙ ap (λ q. cond t q (atom_value v zeros)) (ap (simple_value v) is ∙ part_carries v all s low u x e i.fits i.word.in_range some l)
+    ∙ ap (λ q. cond t (op.slice x low u) q) z)
 
 heard_is : (t : IrType) (on : Bool) (x : Word) → x.width ≡ width_of (ty_of t) → heard (Some t) (cond on x no_word) ≡ unflat_of (ty_of t) (cond on x.value 0)
 heard_is t true x e = let same : (x.width == width_of (ty_of t)) ≡ true = grind (arith, nat_tests) in ap (λ b. unflat_of (ty_of t) (cond b x.value 0)) same
@@ -126,13 +125,11 @@ heard_is t false x e = none (0 == width_of (ty_of t))
 pair_leaves : (value : Value) → leaves_of (Tuple (no_value ∷ value ∷ [])) ≡ leaves_of value
 pair_leaves value = leaves-Tuple (no_value ∷ value ∷ []) ∙ ap (λ xs. xs ++ (leaves_of value ++ [])) (leaves-Tuple []) ∙ append-nil (leaves_of value)
 
-pub receive_shows : (v : Values) (channels : List Channel) (c : ℕ) (t : IrType) (s k : ℕ) (on : Atom) (zeros : ℕ → Atom) (b : Bool) (x : Word)
-    → channel_type channels c ≡ Some t → HasWidths (ty_of t) → AreWired v k (receive_wires (width_of (ty_of t)) s on zeros (leaf_widths (ty_of t)))
-    → v s ≡ x → IsWordOf (width_of (ty_of t)) x → atom_value v on ≡ bit b → ((w : ℕ) → atom_value v (zeros w) ≡ word w 0)
-    → ShowsValue v (nets k (length (leaf_widths (ty_of t)))) (received channels c b x)
-receive_shows v channels c t s k on zeros b x is widths h e of o z =
-    let all = total_is (ty_of t) in
-    receive_carries v (width_of (ty_of t)) s k on zeros (leaf_widths (ty_of t)) b x h e of.fits of.word.in_range (omega (arith, all)) (leaves_are_some (ty_of t) widths) o z
+pub receive_shows : (v : Values) (channels : List Channel) (c : ℕ) (t : IrType) (numbers : List Atom) (b : Bool) (x : Word)
+    → channel_type channels c ≡ Some t → IsWordOf (width_of (ty_of t)) x → map (atom_value v) numbers ≡ cut_into (leaf_widths (ty_of t)) (cond b x.value 0)
+    → ShowsValue v numbers (received channels c b x)
+receive_shows v channels c t numbers b x is of cut =
+    cut
     ∙ sym (unflat_is_cut (ty_of t) (cond b x.value 0))
     ∙ ap leaves_of (sym (heard_is t b x of.fits))
     ∙ sym (pair_leaves (heard (Some t) (cond b x no_word)))

@@ -50,24 +50,25 @@ at_most false n = omega arith
 pub count_shown : (v : Values) (fifo : FifoNets) (row : Row Word) (asserted : Bool) (valid_data : Option Word) → IsFifo v fifo → FifoHeld v fifo row valid_data → atom_value v fifo.asserted ≡ bit asserted
     → CountShown v fifo row asserted valid_data
 count_shown v fifo row asserted valid_data is stage_regs a =
+    let seen = is.view in
     let h = is.count in
     let wide = stage_regs.wide in
     let few = stage_regs.few in
-    let there : v (there_net fifo) ≡ bit (has_word row) = operated binary.NotEqual (v (there_net fifo)) _ _ (word fifo.count_width row.count) (word fifo.count_width 0) h.0 stage_regs.count (stage_regs.numbers 0 (omega arith)) in
+    let there : v (there_net fifo) ≡ bit (has_word row) = operated binary.NotEqual (v (there_net fifo)) _ _ (word fifo.count_width row.count) (word fifo.count_width 0) seen.0 stage_regs.count (stage_regs.numbers 0 (omega arith)) in
     let room : v (room_net fifo) ≡ bit (has_room fifo.depth row) =
-    operated binary.NotEqual (v (room_net fifo)) _ _ (word fifo.count_width row.count) (word fifo.count_width fifo.depth) h.1.0 stage_regs.count (stage_regs.numbers fifo.depth (omega arith)) in
-    let given : v (gives_net fifo) ≡ bit (gives row asserted) = conjunction (v (gives_net fifo)) _ _ asserted (has_word row) h.1.1.0 a there in
-    let taken : v (takes_net fifo) ≡ bit (takes fifo.depth row valid_data) = conjunction (v (takes_net fifo)) _ _ (is_some valid_data) (has_room fifo.depth row) h.1.1.1.0 stage_regs.offers room in
-    let less = operated binary.Subtract (v (suc (takes_net fifo))) _ _ (word fifo.count_width row.count) (word fifo.count_width 1) h.1.1.1.1.0 stage_regs.count stage_regs.number_one in
+    operated binary.NotEqual (v (room_net fifo)) _ _ (word fifo.count_width row.count) (word fifo.count_width fifo.depth) seen.1.0 stage_regs.count (stage_regs.numbers fifo.depth (omega arith)) in
+    let given : v (gives_net fifo) ≡ bit (gives row asserted) = conjunction (v (gives_net fifo)) _ _ asserted (has_word row) h.0 a there in
+    let taken : v (takes_net fifo) ≡ bit (takes fifo.depth row valid_data) = conjunction (v (takes_net fifo)) _ _ (is_some valid_data) (has_room fifo.depth row) h.1.0 stage_regs.offers room in
+    let less = operated binary.Subtract (v (suc (takes_net fifo))) _ _ (word fifo.count_width row.count) (word fifo.count_width 1) h.1.1.0 stage_regs.count stage_regs.number_one in
     let left : v (between_net fifo) ≡ word fifo.count_width (between row asserted) =
-    choice (v (between_net fifo)) (v (gives_net fifo)) (v (suc (takes_net fifo))) (atom_value v fifo.count) (gives row asserted) h.1.1.1.1.1.0 given
+    choice (v (between_net fifo)) (v (gives_net fifo)) (v (suc (takes_net fifo))) (atom_value v fifo.count) (gives row asserted) h.1.1.1.0 given
     ∙ ap (λ z. cond (gives row asserted) (v (suc (takes_net fifo))) z) stage_regs.count
     ∙ same_choice (gives row asserted) (v (suc (takes_net fifo))) (word fifo.count_width (row.count - 1)) (word fifo.count_width row.count)
     (λ g. less ∙ one_less fifo.count_width row.count (gives_some row.count asserted g) (omega (arith, wide, few)) stage_regs.one)
     ∙ pushed (gives row asserted) in
-    let more = operated binary.Add (v (suc (between_net fifo))) _ _ (word fifo.count_width (between row asserted)) (word fifo.count_width 1) h.1.1.1.1.1.1.0 left stage_regs.number_one in
+    let more = operated binary.Add (v (suc (between_net fifo))) _ _ (word fifo.count_width (between row asserted)) (word fifo.count_width 1) h.1.1.1.1.0 left stage_regs.number_one in
     let count : v (count_net fifo) ≡ word fifo.count_width (row_after fifo.depth row asserted valid_data).count =
-    choice (v (count_net fifo)) (v (takes_net fifo)) (v (suc (between_net fifo))) (v (between_net fifo)) (takes fifo.depth row valid_data) h.1.1.1.1.1.1.1.0 taken
+    choice (v (count_net fifo)) (v (takes_net fifo)) (v (suc (between_net fifo))) (v (between_net fifo)) (takes fifo.depth row valid_data) h.1.1.1.1.1.0 taken
     ∙ ap (λ z. cond (takes fifo.depth row valid_data) (v (suc (between_net fifo))) z) left
     ∙ same_choice (takes fifo.depth row valid_data) (v (suc (between_net fifo))) (word fifo.count_width (between row asserted + 1)) (word fifo.count_width (between row asserted))
     (λ t.

@@ -69,22 +69,22 @@ binary_carries v operation.Xor width k a b zeros ones x y h e f w z n = operated
 
 -- ---- comparisons
 
-less_is : (o : Ordering) → holds order.Less o ≡ ir.is_less o
+pub less_is : (o : Ordering) → holds order.Less o ≡ ir.is_less o
 less_is Less = refl
 less_is Equal = refl
 less_is Greater = refl
 
-not_greater_is : (o : Ordering) → holds order.LessOrEqual o ≡ not (ir.is_greater o)
+pub not_greater_is : (o : Ordering) → holds order.LessOrEqual o ≡ not (ir.is_greater o)
 not_greater_is Less = refl
 not_greater_is Equal = refl
 not_greater_is Greater = refl
 
-greater_is : (o : Ordering) → holds order.Greater o ≡ ir.is_greater o
+pub greater_is : (o : Ordering) → holds order.Greater o ≡ ir.is_greater o
 greater_is Less = refl
 greater_is Equal = refl
 greater_is Greater = refl
 
-not_less_is : (o : Ordering) → holds order.GreaterOrEqual o ≡ not (ir.is_less o)
+pub not_less_is : (o : Ordering) → holds order.GreaterOrEqual o ≡ not (ir.is_less o)
 not_less_is Less = refl
 not_less_is Equal = refl
 not_less_is Greater = refl
@@ -97,7 +97,7 @@ equal_by false false h = refl
 less_apart : (m n : ℕ) → nat_lt m n ≡ true → (m == n) ≡ false
 less_apart m n h = grind (arith, nat_tests)
 
-equal_is : (x y : Word) → (x.value == y.value) ≡ ir.is_equal (op.cmp_u x y)
+pub equal_is : (x y : Word) → (x.value == y.value) ≡ ir.is_equal (op.cmp_u x y)
 equal_is x y = equal_by (nat_lt x.value y.value) (x.value == y.value) (less_apart x.value y.value)
 
 signed_is : (v : Values) (o : Order) (s t : ℕ) (x y u : Word) → u ≡ bit (holds o (op.cmp_s (v s) (v t))) → v s ≡ x → v t ≡ y → u ≡ bit (holds o (op.cmp_s x y))

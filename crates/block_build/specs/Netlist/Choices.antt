@@ -3,13 +3,9 @@ use Rattle.std.specs.Prelude.{ℕ, List, [], ◌∷◌, get_or, nat_lt, if◌the
 use Rattle.xb_value.specs.declared.value.Value.{Value}
 use Rattle.vlog_tree.specs.declared.expression.Atom.{Atom}
 use Rattle.vlog_tree.specs.declared.expression.Binary.TheVariants as binary
-use Rattle.vlog_tree.specs.declared.expression.Expr.TheVariants as expr
-use Rattle.vlog_tree.specs.declared.expression.Simple.TheVariants as simple
 use Rattle.ir_tree.specs.Constants.{no_value}
 use Rattle.block_build.specs.Netlist.Wires.{Wire}
 use Rattle.block_build.specs.Netlist.Gates.{net, choice_gate, binary_gate}
-use Rattle.block_build.specs.Netlist.Leaves.{total_width}
-use Rattle.block_build.specs.Netlist.Operators.{part_of}
 
 -- where the bit is 1 the first, else the second, of values with numbers of these widths
 abbrev pub choice_wires : Atom → List ℕ → List Atom → List Atom → List Wire
@@ -25,9 +21,3 @@ pick_wires k selector number ws firsts seconds = binary_gate 1 binary.Equal sele
 -- the value at an index below i, else another: what is so far chosen where the indices are compared in turn
 abbrev pub chosen_below : ℕ → ℕ → Value → List Value → Value
 chosen_below n i other values = if nat_lt n i then get_or values n no_value else other
-
--- the numbers of these widths in the word that a receive has on a signal of `all` bits, or 0 in each where it is off
-abbrev pub receive_wires : ℕ → ℕ → Atom → (ℕ → Atom) → List ℕ → List Wire
-receive_wires all s on zeros [] = []
-receive_wires all s on zeros (w ∷ ws) =
-    record { width = w; driver = expr.Choice on (part_of all s (total_width ws) w) (simple.Atom (zeros w)) } ∷ receive_wires all s on zeros ws

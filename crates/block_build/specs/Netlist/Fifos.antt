@@ -10,7 +10,8 @@ use Rattle.block_build.specs.Netlist.Gates.{net, and_gate, choice_gate, binary_g
 
 -- a FIFO: the width of its count; its registers, of which the one behind the last slot is any signal; whether its reader is ready,
 -- whether its writer has valid a word, and which; the numbers 0, 1 and its depth as wide as the count, and those of the slots; the
--- number of its first wire, and for each slot that of the first of those by which it goes on
+-- number of the first of the wires that say what is in it; that of the first of those by which its count goes on, which read what its
+-- reader and its writer do; and for each slot that of the first of those by which it goes on
 pub record FifoNets : Type 0 where
   pub count_width : ℕ
   pub width : ℕ
@@ -22,6 +23,7 @@ pub record FifoNets : Type 0 where
   pub number : ℕ → Atom
   pub depth : ℕ
   pub first : ℕ
+  pub goes : ℕ
   pub next : ℕ → ℕ
 
 abbrev pub there_net : FifoNets → ℕ
@@ -31,24 +33,28 @@ abbrev pub room_net : FifoNets → ℕ
 room_net fifo = suc fifo.first
 
 abbrev pub gives_net : FifoNets → ℕ
-gives_net fifo = suc (suc fifo.first)
+gives_net fifo = fifo.goes
 
 abbrev pub takes_net : FifoNets → ℕ
-takes_net fifo = suc (suc (suc fifo.first))
+takes_net fifo = suc fifo.goes
 
 abbrev pub between_net : FifoNets → ℕ
-between_net fifo = suc (suc (suc (suc (suc fifo.first))))
+between_net fifo = suc (suc (suc fifo.goes))
 
 abbrev pub count_net : FifoNets → ℕ
-count_net fifo = suc (suc (suc (suc (suc (suc (suc fifo.first))))))
+count_net fifo = suc (suc (suc (suc (suc fifo.goes))))
 
--- a word is there; there is room; it gives one; it takes one; the count less one; the count behind what it gives; one more; and
--- the count that it has next
-abbrev pub fifo_wires : FifoNets → List Wire
-fifo_wires fifo =
+-- a word is there; there is room
+abbrev pub view_wires : FifoNets → List Wire
+view_wires fifo =
     binary_gate 1 binary.NotEqual fifo.count (fifo.number 0)
     ∷ binary_gate 1 binary.NotEqual fifo.count (fifo.number fifo.depth)
-    ∷ and_gate fifo.asserted (net (there_net fifo))
+    ∷ []
+
+-- it gives a word; it takes one; the count less one; the count behind what it gives; one more; and the count that it has next
+abbrev pub count_wires : FifoNets → List Wire
+count_wires fifo =
+    and_gate fifo.asserted (net (there_net fifo))
     ∷ and_gate fifo.offers (net (room_net fifo))
     ∷ binary_gate fifo.count_width binary.Subtract fifo.count (fifo.number 1)
     ∷ choice_gate fifo.count_width (net (gives_net fifo)) (net (suc (takes_net fifo))) fifo.count
@@ -69,7 +75,8 @@ abbrev pub slot_net : FifoNets → ℕ → ℕ
 slot_net fifo x = suc (suc (suc (fifo.next x)))
 
 pub record IsFifo (v : Values) (fifo : FifoNets) : Type 0 where
-  pub count : AreWired v fifo.first (fifo_wires fifo)
+  pub view : AreWired v fifo.first (view_wires fifo)
+  pub count : AreWired v fifo.goes (count_wires fifo)
   pub slots : (x : ℕ) → x < fifo.depth → AreWired v (fifo.next x) (slot_wires fifo x)
 
 -- what it reads: its registers hold this row, of at most as many words as slots, and the count is wide enough

@@ -9,7 +9,7 @@ ghost use Rattle.xb_value.specs.declared.ty.Ty as ty;
 ghost use Rattle.xb_value.specs.declared.value.Value.{Value, out-Value, Tuple, Array};
 ghost use Rattle.xb_value.specs.Flat.{joined};
 ghost use Rattle.xb_value.specs.Typing.{IsOfType};
-ghost use Rattle.xb_value.specs.Width.{width_of, HasWidths};
+ghost use Rattle.xb_value.specs.Width.{width_of};
 ghost use Rattle.net_core.specs.Behavior.{IsWordOf};
 ghost use Rattle.delay_model.specs.declared.op.Op.TheVariants as op;
 ghost use Rattle.delay_model.specs.declared.op.Binary.{Binary};
@@ -37,10 +37,10 @@ ghost use Rattle.vlog_tree.specs.declared.expression.Unary.TheVariants as unary;
 ghost use Rattle.vlog_tree.specs.Value.{Values, atom_value};
 ghost use Rattle.block_build.specs.Netlist.Wires.{AreWired};
 ghost use Rattle.block_build.specs.Netlist.Gates.{net};
-ghost use Rattle.block_build.specs.Netlist.Leaves.{all_leaves, ShowsValue, nets, leaf_widths, leaf_counts, repeated, total_width, ShowAll, parts_of};
+ghost use Rattle.block_build.specs.Netlist.Leaves.{all_leaves, ShowsValue, nets, leaf_widths, leaf_counts, cut_into, repeated, total_width, ShowAll, parts_of};
 ghost use Rattle.block_build.specs.Netlist.Operators.{binary_wires, binary_net, compare_gate, SignalsCarry, shift_gate, SignalCarries, unary_gate, reduce_gate, part_of, simple_gate, fitted, dyn_slice_wires, sign_wires, bit_wires};
 ghost use Rattle.block_build.specs.Netlist.Results.{GivesOne, GivesTwo, ShowWords, StandsForRest};
-ghost use Rattle.block_build.specs.Netlist.Choices.{choice_wires, pick_wires, chosen_below, receive_wires};
+ghost use Rattle.block_build.specs.Netlist.Choices.{choice_wires, pick_wires, chosen_below};
 ghost use Rattle.block_build.specs.Netlist.Procs.{setting_by};
 ghost use Rattle.block_build.specs.Netlist.Nodes.{value_by_words, AreStaged, HaveOperandTypes, ProcNets, NodesShow, ShowEarlier, AreHeard};
 
@@ -158,14 +158,14 @@ pub fn choices_show_values()
         ShowsValue v (all_leaves results) (index_value op.ArrayUpdate i (x ∷ e ∷ [])) }
 {}
 
-/// The wires of a receive show what it gives: a token, and the value in its word where it is on, else 0 in each number. It is
+/// The signals of a receive show what it gives: a token, and the value in its word where it is on, else 0 in each number. It is
 /// on where its predicate's signal carries 1.
 pub fn receives_show_values()
     ensures on { (v : Values) (on : Atom) (x : Value) → IsOfType (ty.Bits 1) x → ShowsValue v (on ∷ []) x → atom_value v on ≡ bit (is_one (out-Value x)) }
-    ensures given { (v : Values) (channels : List Channel) (c : ℕ) (t : IrType) (s k : ℕ) (on : Atom) (zeros : ℕ → Atom) (b : Bool) (x : Word) →
-        channel_type channels c ≡ Some t → HasWidths (ty_of t) → AreWired v k (receive_wires (width_of (ty_of t)) s on zeros (leaf_widths (ty_of t))) →
-        v s ≡ x → IsWordOf (width_of (ty_of t)) x → atom_value v on ≡ bit b → ((w : ℕ) → atom_value v (zeros w) ≡ word w 0) →
-        ShowsValue v (nets k (length (leaf_widths (ty_of t)))) (received channels c b x) }
+    ensures given { (v : Values) (channels : List Channel) (c : ℕ) (t : IrType) (numbers : List Atom) (b : Bool) (x : Word) →
+        channel_type channels c ≡ Some t → IsWordOf (width_of (ty_of t)) x →
+        map (atom_value v) numbers ≡ cut_into (leaf_widths (ty_of t)) (if b then x.value else 0) →
+        ShowsValue v numbers (received channels c b x) }
 {}
 
 /// The wire on which the numbers of a value stand side by side carries the word that is sent of it.
