@@ -15,6 +15,7 @@ so that only those of checked texts are named.
 import re
 import sys
 import threading
+from contextlib import contextmanager
 from dataclasses import dataclass, field
 from enum import Enum, auto
 from functools import lru_cache
@@ -1006,11 +1007,10 @@ class Judge:
         if count != len(written) or len(args) > len(item.parametrics):
             self.broken(10, e)
             return None, nothing
-        if is_cyclic and item in self.checker.entered:
-            return None, nothing
-        self.checker.entered.append(item)
-        instance, types = self.judge_instance(e, item, args, written, operands, is_cyclic)
-        self.checker.entered.pop()
+        if is_cyclic and self.checker.is_looking:
+            return None, nothing  # types and values take no second look
+        with self.checker.looking(self.checker.is_looking or is_cyclic):
+            instance, types = self.judge_instance(e, item, args, written, operands, is_cyclic)
         return instance, types or nothing
 
     def judge_instance(self, e, item, args, written, operands, is_cyclic):
@@ -1019,10 +1019,8 @@ class Judge:
         if state == "rule 10":
             self.broken(10, e)
             return None, None
-        if state == "complete":
+        if state == "complete" and not is_cyclic:
             instance = self.checker.instance(item, tuple(b.value for b in scope.names.values()))
-            if is_cyclic:
-                return None, instance.wanted
             self.unit.reached.append(instance)
             return instance, instance.wanted
         if not is_cyclic:
@@ -1480,9 +1478,15 @@ class Checker:
             self.first.setdefault(item.name.name, item)
         self.mentions = Mentions({name for name, item in self.first.items() if isinstance(item, Constant)})
         self.reach, self.judged_items, self.instances, self.judged_count = {}, {}, {}, 0
-        self.entered = []  # declarations whose parametrics are being judged
+        self.is_looking = False  # a call that breaks rule 3 looks at a declaration
 
     # -- rule 3
+
+    @contextmanager
+    def looking(self, is_looking):
+        before, self.is_looking = self.is_looking, is_looking
+        yield
+        self.is_looking = before
 
     def mentioned(self, item):
         """The items that the text of an item names as what they are."""
@@ -1581,7 +1585,8 @@ class Checker:
         key = item, values
         if key not in self.instances:
             self.instances[key] = Instance(self, item, values)
-            self.instances[key].judge_head()
+            with self.looking(False):
+                self.instances[key].judge_head()
         return self.instances[key]
 
     def count_judged(self):

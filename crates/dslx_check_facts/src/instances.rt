@@ -8,8 +8,8 @@ ghost use Rattle.base.specs.Lists.Prefix.{IsPrefix};
 ghost use Rattle.dslx_check_facts.specs.Keys.{fed_by_instance, same_instance_key, word_in};
 ghost use Rattle.dslx_check_facts.specs.KeyLaws.{instance_keys_equivalence, instance_keys_fed_alike};
 
-use crate::alike::equal_values;
 use dslx_meaning::DslxValue;
+use dslx_values::equal_values;
 use indexmap::IndexSet;
 use std::alloc::{AllocError, Global};
 use std::hash::{Hash, Hasher};

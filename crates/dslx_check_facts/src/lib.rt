@@ -5,7 +5,6 @@
 //! once that is known.
 #![tactic(auto)]
 
-mod alike;
 mod asked;
 mod bindings;
 mod facts;
@@ -22,7 +21,6 @@ mod type_env;
 mod typings;
 mod walk;
 
-pub use alike::{equal_value, equal_values};
 pub use asked::{Asked, ForeignKey, ForeignPart};
 pub use bindings::Bindings;
 pub use facts::{DefaultThere, Facts, ForeignSeen, Kept, SignatureThere, Sums, TypingThere};

@@ -8,9 +8,9 @@ ghost use Rattle.base.specs.Lists.Prefix.{IsPrefix};
 ghost use Rattle.dslx_check_facts.specs.Keys.{fed_by_prefix, list_or_none, same_prefix, same_value_if, word_if};
 ghost use Rattle.dslx_check_facts.specs.KeyLaws.{prefixes_equivalence, prefixes_fed_alike};
 
-use crate::alike::equal_value;
 use crate::instances::{number, word_of};
 use dslx_meaning::DslxValue;
+use dslx_values::equal_value;
 use indexmap::IndexSet;
 use std::alloc::{AllocError, Global};
 use std::hash::{Hash, Hasher};

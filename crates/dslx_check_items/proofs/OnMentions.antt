@@ -2,7 +2,7 @@
 pub mod InTurn
 -- what stands at the top of a part
 pub mod Opened
--- what is bound
+-- items of a list, from the last one on
 pub mod Bounds
 -- what the text of an item mentions
 pub mod Items

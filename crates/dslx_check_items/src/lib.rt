@@ -2,7 +2,6 @@
 #![tactic(auto)]
 
 mod binds;
-mod bound;
 mod definitions;
 mod mention;
 mod mentions;

@@ -3,17 +3,16 @@ ghost use Rattle.dslx_check_items.specs.Shown.{use_shown};
 ghost use Rattle.dslx_check_items.specs.Inner.Walks.{binding, calling, keeping, naming, starts, valuing};
 ghost use Rattle.dslx_check_items.specs.Inner.Plain.{walk_shown};
 
-use crate::bound::Bound;
 use crate::mention::{Mention, Use};
 use base::texts::Name;
-use dslx_names::{Callee, callee_of};
+use dslx_names::{BoundNames, Callee, callee_of};
 use std::alloc::{AllocError, Global};
 
 /// What is mentioned so far, and what is bound there.
 #[derive(Drop)]
 pub(crate) struct Walk<'a> {
     pub(crate) found: Vec<Mention<'a>>,
-    pub(crate) bound: Bound<'a>,
+    pub(crate) bound: BoundNames<'a>,
 }
 
 impl<'a> Walk<'a> {
@@ -23,7 +22,7 @@ impl<'a> Walk<'a> {
     {
         Walk {
             found: Vec::new(alloc),
-            bound: Bound::new(alloc),
+            bound: BoundNames::new(alloc),
         }
     }
 

@@ -2,6 +2,8 @@
 pub mod OnAccepted
 -- activations of procs
 pub mod OnActivities
+-- cycles of items
+pub mod OnCycles
 -- items
 pub mod OnComplete
 -- what values depend on

@@ -146,17 +146,17 @@ abbrev pub CoreElaboration : Type 0
 CoreElaboration = List ℕ → ℕ → List ℕ → ℕ → CoreFamily
 
 abbrev pub core_children : CoreElaboration → List ℕ → List ℕ → ℕ → List Child → ℕ → ℕ → CoreFamily
-core_children place path given number [] k next = no_core_family
-core_children place path given number (c ∷ cs) k next =
-    let first = place (child_path path k) c.instance (map (channel_of_end given number) c.ends) next in
-    and_core_family first (core_children place path given number cs (suc k) (next + length first.chans))
+core_children family path given number [] k next = no_core_family
+core_children family path given number (c ∷ cs) k next =
+    let first = family (child_path path k) c.instance (map (channel_of_end given number) c.ends) next in
+    and_core_family first (core_children family path given number cs (suc k) (next + length first.chans))
 
 abbrev pub core_elaborate : CoreElaboration → Instance → List ℕ → List ℕ → ℕ → CoreFamily
-core_elaborate place i path given number =
+core_elaborate family i path given number =
     let own = map (made_of path) i.made in
     and_core_family
     (record { procs = record { path = path; instance = i; channels = map (channel_of_end given number) i.members } ∷ []; chans = own })
-    (core_children place path given number i.children 0 (number + length own))
+    (core_children family path given number i.children 0 (number + length own))
 
 abbrev pub no_elaboration : CoreElaboration
 no_elaboration path i given number = no_core_family

@@ -2,5 +2,3 @@
 pub mod Callees
 -- what is found among entries
 pub mod Found
--- lists of which each pair passes a test
-pub mod Pairs

@@ -1,10 +1,8 @@
 //! The instances of functions that are done, by their names and parametric arguments, in the order in which they were done.
-mod alike;
 mod callee;
 mod functions;
 mod key;
 mod table;
 
-pub use alike::{equal_value, equal_values};
 pub use callee::callee_there;
 pub use table::InstanceTable;

@@ -155,10 +155,10 @@ type_den (TypeNode-F.TypeNode::Array t e) env = with_both (t env) (size_of e env
 
 -- each value of a tuple fits its own pattern, in order
 abbrev pub fit_each : Env → List PatternDen → List DslxValue → Env → Option Env
-fit_each place [] [] env = Some env
-fit_each place (p ∷ ps) (v ∷ vs) env = and_then (p.fits place v env) (fit_each place ps vs)
-fit_each place [] (v ∷ vs) env = None
-fit_each place (p ∷ ps) [] env = None
+fit_each scope [] [] env = Some env
+fit_each scope (p ∷ ps) (v ∷ vs) env = and_then (p.fits scope v env) (fit_each scope ps vs)
+fit_each scope [] (v ∷ vs) env = None
+fit_each scope (p ∷ ps) [] env = None
 
 -- the value is this one
 abbrev pub fit_value : Option DslxValue → DslxValue → Env → Option Env
@@ -166,12 +166,12 @@ fit_value None v env = None
 fit_value (Some w) v env = if same_value v w then Some env else None
 
 abbrev pub shape_fits : ShapeMeanings → MatchDen
-shape_fits Shape-F.Wild place v env = Some env
-shape_fits (Shape-F.Shape::Bool b) place v env = fit_value (Some (bool_value b)) v env
-shape_fits (Shape-F.Shape::Number n) place v env = fit_value (n.value place) v env
-shape_fits (Shape-F.Shape::Name name) place v env = if env.items.is_constant name then fit_value (env.items.constant name) v env else Some (bind name v env)
-shape_fits (Shape-F.Shape::Member e a) place v env = fit_value (env.items.member e.name a.name) v env
-shape_fits (Shape-F.Shape::Tuple ps) place v env = and_then (elements_of v) (λ vs. fit_each place ps vs env)
+shape_fits Shape-F.Wild scope v env = Some env
+shape_fits (Shape-F.Shape::Bool b) scope v env = fit_value (Some (bool_value b)) v env
+shape_fits (Shape-F.Shape::Number n) scope v env = fit_value (n.value scope) v env
+shape_fits (Shape-F.Shape::Name name) scope v env = if env.items.is_constant name then fit_value (env.items.constant name) v env else Some (bind name v env)
+shape_fits (Shape-F.Shape::Member e a) scope v env = fit_value (env.items.member e.name a.name) v env
+shape_fits (Shape-F.Shape::Tuple ps) scope v env = and_then (elements_of v) (λ vs. fit_each scope ps vs env)
 
 abbrev pub all_names : List PatternDen → List (List ℕ)
 all_names [] = []

@@ -120,31 +120,31 @@ abbrev pub spawn_parametric_args : Meanings → Env → Proc → List Arg → Op
 spawn_parametric_args items env target arguments = and_then (values_of (map arg_denotation arguments) env) (all_parametric_args items [] [] target.parametrics)
 
 abbrev pub spawned_at : Elaboration → List ℕ → List Held → Spawn → ℕ → Option Proc → Option (List DslxValue) → Family
-spawned_at place path held s number (Some target) (Some parametric_args) = place path target parametric_args (handed_over target.config.ends (channels_of_ends held s.ends)) number
-spawned_at place path held s number _ _ = no_family
+spawned_at family path held s number (Some target) (Some parametric_args) = family path target parametric_args (handed_over target.config.ends (channels_of_ends held s.ends)) number
+spawned_at family path held s number _ _ = no_family
 
 abbrev pub spawned : Module → Meanings → Elaboration → List ℕ → Env → List Held → Spawn → ℕ → Family
-spawned m items place path env held s number =
+spawned m items family path env held s number =
     let target = as_proc (item_named s.target.name m.items) in
-    spawned_at place path held s number target (and_then target (λ p. spawn_parametric_args items env p s.arguments))
+    spawned_at family path held s number target (and_then target (λ p. spawn_parametric_args items env p s.arguments))
 
 -- the children in the order of the text, from the child of this number on
 abbrev pub children : Module → Meanings → Elaboration → List ℕ → Env → List Held → List ConfigStatement → ℕ → ℕ → Family
-children m items place path env held [] k number = no_family
-children m items place path env held (config_statement.Channel c ∷ ms) k number = children m items place path env held ms k number
-children m items place path env held (config_statement.Spawn s ∷ ms) k number =
-    let first = spawned m items place (child_path path k) env held s number in
-    and_family first (children m items place path env held ms (suc k) (number + length first.chans))
+children m items family path env held [] k number = no_family
+children m items family path env held (config_statement.Channel c ∷ ms) k number = children m items family path env held ms k number
+children m items family path env held (config_statement.Spawn s ∷ ms) k number =
+    let first = spawned m items family (child_path path k) env held s number in
+    and_family first (children m items family path env held ms (suc k) (number + length first.chans))
 
 -- a proc's own channels have the first numbers, then those of its children's families, in order
 abbrev pub elaborate_over : Module → Meanings → Elaboration → Elaboration
-elaborate_over m items place path p parametric_args ends number =
+elaborate_over m items family path p parametric_args ends number =
     let env = instance_env items p.parametrics parametric_args in
     let own = made_chans path env p.config.config_statements in
     let held = ends ++ made_ends number p.config.config_statements in
     and_family
     (record { procs = record { path = path; proc = p; parametric_args = parametric_args; channels = channels_of_ends held p.config.result } ∷ []; chans = own })
-    (children m items place path env held p.config.config_statements 0 (number + length own))
+    (children m items family path env held p.config.config_statements 0 (number + length own))
 
 -- a chain of spawns is no longer than the list of items
 abbrev pub elaborate_within : Module → Meanings → ℕ → Elaboration

@@ -8,10 +8,7 @@ use Rattle.std.proofs.lemmas.List.{length-drop, length-map, length-reverse, map-
 use Rattle.dslx_meaning.specs.Environment.{Given, given_in}
 use Rattle.dslx_names.specs.Bound.{given}
 use Rattle.dslx_names.specs.declared.scope.Binding.{Binding}
-
-drop_prefix : {T : Type 0} (a b : List T) → drop (length a) (a ++ b) ≡ b
-drop_prefix [] b = refl
-drop_prefix (x ∷ xs) b = drop_prefix xs b
+use Rattle.dslx_names.proofs.Lemmas.FirstNames.{drop_prefix}
 
 left_is : {T : Type 0} (k : ℕ) (xs : List T) → drop k (reverse xs) ≡ reverse (take (length xs - k) xs)
 left_is {T} k xs = elim (cases_Bool (leb k (length xs))) [

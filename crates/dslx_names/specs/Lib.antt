@@ -1,5 +1,7 @@
 -- names with what they stand for
 pub mod Bound
+-- names that were bound first
+pub mod FirstNames
 -- what called names stand for
 pub mod Called
 -- sends and receives

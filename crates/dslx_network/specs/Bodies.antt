@@ -1,19 +1,14 @@
 -- Procs of checked texts of which there can be bodies.
-use Rattle.std.specs.Prelude.{ℕ, [], get_or, Bool, true, ◌&&◌, nat_le, Option, Some}
+use Rattle.std.specs.Prelude.{ℕ, [], get_or, Bool, true, Option, Some}
 use Rattle.net_core.specs.Behavior.{Behavior}
-use Rattle.xb_value.specs.Width.{width_of, widths_step}
-use Rattle.xb_value.specs.declared.ty.Ty.{Ty, fold-Ty}
 use Rattle.dslx_core.specs.Designs.{CoreElaborated, core_behavior, core_family}
 use Rattle.dslx_core.specs.declared.design.Design.{Design}
 use Rattle.dslx_core.specs.declared.design.Instance.{Instance}
 use Rattle.dslx_core.specs.declared.step.Step.{Step}
 use Rattle.dslx_core.specs.declared.step.Step.TheVariants as step
+use Rattle.dslx_core.specs.Lowering.Steps.{fits_word}
 
--- a word holds a value of the type
-abbrev pub fits_word : Ty → Bool
-fits_word t = fold-Ty Bool widths_step t && (nat_le 1 (width_of t) && nat_le (width_of t) 128)
-
--- so it is of the type that is received
+-- a word holds a value of the type that is received
 abbrev pub receives_word : Step → Bool
 receives_word (step.Bind e shape) = true
 receives_word (step.Receive r) = fits_word r.word

@@ -5,7 +5,8 @@ ghost use Rattle.net_core.specs.declared.event.Event.TheVariants.{End};
 ghost use Rattle.dslx_meaning.specs.Lists.{and_then};
 ghost use Rattle.dslx_core.specs.CoreValues.{core_value};
 ghost use Rattle.dslx_core.specs.Designs.{Behind, condition_at, do_step, functions_from, no_function, receive_if, receive_on, send_if, token, with_token};
-ghost use Rattle.dslx_network.specs.Bodies.{fits_word, receives_word};
+ghost use Rattle.dslx_core.specs.Lowering.Steps.{fits_word};
+ghost use Rattle.dslx_network.specs.Bodies.{receives_word};
 ghost use Rattle.dslx_network.specs.Inner.Walking.{SendsAWord, Goes, BindsOrEnds, bound_then, event_here, give_then, receive_off, send_off};
 
 use crate::word::{word_at, word_value};

@@ -2,7 +2,7 @@
 
 ghost use Rattle.std.specs.Prelude.{◌≡◌, slice_get, IfOk, IsTrue};
 ghost use Rattle.xb_value.specs.Unflat.{unflat_of};
-ghost use Rattle.dslx_network.specs.Bodies.{fits_word};
+ghost use Rattle.dslx_core.specs.Lowering.Steps.{fits_word};
 
 use std::alloc::{AllocError, Global};
 use xb_bits::{Bits, slice};

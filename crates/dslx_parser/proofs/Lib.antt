@@ -7,5 +7,7 @@ pub mod OnBuilder
 pub mod OnBuilt
 -- the depth of trees
 pub mod OnDepths
+-- the names of ends
+pub mod OnEnds
 -- the spans of trees
 pub mod OnSpans

@@ -6,5 +6,7 @@ pub mod Builder
 pub mod Depths
 -- the spans of trees
 pub mod Spans
+-- names of ends
+pub mod Ends
 -- what each rule makes
 pub mod Syntax

@@ -7,6 +7,7 @@
 pub mod builder;
 pub mod built;
 pub mod depths;
+pub mod ends;
 mod laws;
 mod reader;
 pub mod spans;

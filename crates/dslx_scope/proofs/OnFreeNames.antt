@@ -1,8 +1,6 @@
--- the names that are bound, from the last one on
-pub mod Ends
 -- each step keeps what comes of the machine
 pub mod Keeps
--- names among what is mentioned, and among others
+-- names among what is mentioned
 pub mod Named
 -- what the parts of a tree mention, by what stands at their top
 pub mod Opened

@@ -3,7 +3,6 @@
 //! A machine with a stack of its own finds them, so that how high a tree is takes no room of the processor's stack.
 mod free;
 mod machine;
-mod names;
 mod node;
 mod pattern;
 mod step;

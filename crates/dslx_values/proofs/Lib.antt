@@ -1,5 +1,7 @@
 -- lists and names, as the definitions of the language use them
 mod ListLemmas
+-- for other crates' proofs
+pub mod Lemmas
 -- inference of parametric values
 pub mod OnInference
 -- operators

@@ -3,6 +3,7 @@
 //! Each call is its definition in `dslx_meaning`. No call recurses deeper than a value or a type is nested.
 #![tactic(auto)]
 
+mod alike;
 mod copies;
 mod fill;
 pub mod inference;
@@ -11,6 +12,7 @@ mod parts;
 mod same;
 mod types;
 
+pub use alike::{equal_value, equal_values};
 pub use copies::{copy_name, copy_names, copy_type, copy_types, copy_value, copy_values};
 pub use fill::filled;
 pub use parts::{

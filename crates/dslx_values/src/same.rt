@@ -73,13 +73,13 @@ fn same_types(a: &[DslxType], b: &[DslxType]) -> bool
     true
 }
 
-fn same_sign(a: bool, b: bool) -> bool
+pub(crate) fn same_sign(a: bool, b: bool) -> bool
     ensures { result ≡ same_bool a b }
 {
     if a { b } else { !b }
 }
 
-fn same_word(a: Bits, b: Bits) -> bool
+pub(crate) fn same_word(a: Bits, b: Bits) -> bool
     ensures { result ≡ is_same_word a b }
 {
     a.width() == b.width() && a.value() == b.value()

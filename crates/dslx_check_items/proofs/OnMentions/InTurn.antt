@@ -1,11 +1,12 @@
 -- Parts of the walk in turn are one part that mentions what they do.
-use Rattle.std.proofs.Common.{◌≡◌, ◌-◌, ℕ, Bool, true, false, if◌then◌else◌, List, [], ◌∷◌, ◌++◌, drop, length, Option, Some, None, refl, sym, ap, ◌∙◌, arith}
-use Rattle.std.proofs.lemmas.List.{append_assoc, append-nil, length-append}
+use Rattle.std.proofs.Common.{◌≡◌, ℕ, Bool, true, false, if◌then◌else◌, List, [], ◌∷◌, ◌++◌, length, Option, Some, None, refl, sym, ap, ◌∙◌}
+use Rattle.std.proofs.lemmas.List.{append_assoc, append-nil}
 use Rattle.dslx_meaning.specs.Callees.{is_text_function, kind_of_call}
 use Rattle.dslx_meaning.specs.Lists.{is_in}
 use Rattle.dslx_meaning.specs.Rules.Mentions.{Use, AsFunction, Mentions, NamesBound, all_mentions, mention, mentions_if, nowhere, statements_mentions, value_mention}
-use Rattle.dslx_check_items.proofs.OnMentions.Bounds.{drop_prefix}
-use Rattle.dslx_check_items.specs.Inner.Walks.{MentionWalk, behind, binding, calling, first_names, keeping, mentioning, mentioning_all, mentioning_if, naming, running, valuing}
+use Rattle.dslx_names.specs.FirstNames.{first_names}
+use Rattle.dslx_names.proofs.Lemmas.FirstNames.{back_to}
+use Rattle.dslx_check_items.specs.Inner.Walks.{MentionWalk, behind, binding, calling, keeping, mentioning, mentioning_all, mentioning_if, naming, running, valuing}
 
 pub nothing : (w : MentionWalk) → w ≡ mentioning nowhere w
 unfolding mentioning
@@ -46,12 +47,6 @@ called name w = by (is_text_function (kind_of_call name))
     by false = nothing w
 
 -- ---- what is bound, and forgotten again
-
--- behind names that were bound last
-pub back_to : (names bound : List (List ℕ)) → first_names (length bound) (names ++ bound) ≡ bound
-back_to names bound =
-    let more : length (names ++ bound) - length bound ≡ length names = omega (arith, length-append names bound) in
-    ap (λ (m : ℕ). drop m (names ++ bound)) more ∙ drop_prefix names bound
 
 pub bound_none : (w : MentionWalk) → binding [] w ≡ w
 unfolding binding

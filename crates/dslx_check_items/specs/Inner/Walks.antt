@@ -1,8 +1,9 @@
 -- Where the walk that finds mentions stands, and what parts do there that mention something.
-use Rattle.std.specs.Prelude.{ℕ, List, [], ◌∷◌, ◌++◌, ◌-◌, drop, length, Option, Some, None, if◌then◌else◌}
+use Rattle.std.specs.Prelude.{ℕ, List, [], ◌∷◌, ◌++◌, Option, Some, None, if◌then◌else◌}
 use Rattle.dslx_meaning.specs.Lists.{is_in}
 use Rattle.dslx_meaning.specs.Callees.{is_text_function, kind_of_call}
 use Rattle.dslx_meaning.specs.Rules.Mentions.{Use, AsFunction, AsValue, Mention, Mentions, NamesBound, mention}
+use Rattle.dslx_names.specs.FirstNames.{first_names}
 
 -- what is mentioned so far, and what is bound there, the last name first
 pub record MentionWalk : Type 0 where
@@ -40,10 +41,6 @@ calling name w = if is_text_function (kind_of_call name) then naming AsFunction 
 -- where these are bound too
 unfoldable pub binding : List (List ℕ) → MentionWalk → MentionWalk
 binding names w = record { found = w.found; bound = names ++ w.bound }
-
--- so many names, the first ones, where the last one stands first
-abbrev pub first_names : ℕ → List (List ℕ) → List (List ℕ)
-first_names n names = drop (length names - n) names
 
 -- where so many are bound
 unfoldable pub keeping : ℕ → MentionWalk → MentionWalk

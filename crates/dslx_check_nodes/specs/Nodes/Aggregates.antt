@@ -26,10 +26,10 @@ abbrev pub number_of : Span → UntypedLiteral → Judgement → Judgement
 number_of span number t = number_typing span (Some t) number
 
 abbrev pub index_of : Span → Judgement → Judgement → Judgement
-index_of span whole place =
-    settled span (and_then place.ty (λ k. element_type (and_then whole.ty array_in)))
-    (whole.faults ++ place.faults ++ unless_type is_array rule.PART_IS_THERE span whole.ty ++ unless_type is_unsigned rule.PART_IS_THERE span place.ty)
-    (whole.reached ++ place.reached) (one_and (plus_size whole.size place.size))
+index_of span whole index =
+    settled span (and_then index.ty (λ k. element_type (and_then whole.ty array_in)))
+    (whole.faults ++ index.faults ++ unless_type is_array rule.PART_IS_THERE span whole.ty ++ unless_type is_unsigned rule.PART_IS_THERE span index.ty)
+    (whole.reached ++ index.reached) (one_and (plus_size whole.size index.size))
 
 -- what is taken apart by a number stands at the first span
 abbrev pub pair_or_no_token : Span → Judgement → Option DslxType → Judgement

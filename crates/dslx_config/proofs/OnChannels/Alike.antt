@@ -1,7 +1,8 @@
 -- The widths of a type are those of the type without signs and names.
-use Rattle.std.proofs.Common.{◌≡◌, ◌∙◌, ◌&&◌, ◌∷◌, [], Bool, List, map, refl, ap, sym}
+use Rattle.std.proofs.Common.{◌≡◌, ◌∙◌, ◌&&◌, ◌∷◌, ◌-◌, ◌^◌, ℕ, [], Bool, true, false, List, map, min, nat_le, arith, refl, ap, sym}
 use Rattle.std.specs.List.{list_all}
-use Rattle.xb_value.specs.Width.{widths_step}
+use Rattle.std.proofs.lemmas.Bool.{le-leb, leb-false, leb-true, lt-leb}
+use Rattle.xb_value.specs.Width.{width_of, widths_step}
 use Rattle.xb_value.specs.declared.ty.Ty.{Ty, fold-Ty}
 use Rattle.xb_value.proofs.Lemmas.Types.{EachHas, fold-Array, fold-Bits, fold-Tuple}
 use Rattle.dslx_meaning.specs.Types.{plain_step, plain_type}
@@ -43,5 +44,26 @@ alike = type_induction IsAlike
     (λ name s w. by_level (DslxType-F.Enum name s w) (ty.Enum name s w) (type_rolls.rolls-Enum name s w) (fold-Bits Bool widths_step w))
     (by_level DslxType-F.Token ty.Token type_rolls.rolls-Token (fold-Tuple Bool widths_step []))
 
-pub travels_by_widths : (t : DslxType) → can_travel t ≡ (is_sized t && has_word_widths t)
-travels_by_widths t = ap (λ b. is_sized t && b) (alike t)
+abbrev few : Ty → Bool
+few t = nat_le 1 (width_of t) && nat_le (width_of t) 128
+
+pub travels_by_widths : (t : DslxType) → can_travel t ≡ (is_sized t && (has_word_widths t && few (plain_type t)))
+travels_by_widths t = ap (λ b. is_sized t && (b && few (plain_type t))) (alike t)
+
+-- a number that is cut down to a larger one says the same
+pub least_says : (w n : ℕ) → n ≡ min w (2 ^ 64 - 1) → (nat_le 1 n && nat_le n 128) ≡ (nat_le 1 w && nat_le w 128)
+least_says w n e = λ i. some i && most i
+  where
+    some : nat_le 1 n ≡ nat_le 1 w
+    some = by (nat_le 1 w) refl
+      where
+        by : (b : Bool) → nat_le 1 w ≡ b → nat_le 1 n ≡ b
+        by true q = let more = leb-true 1 w q in le-leb 1 n (omega (arith, more, e))
+        by false q = let less = leb-false 1 w q in lt-leb 1 n (omega (arith, less, e))
+
+    most : nat_le n 128 ≡ nat_le w 128
+    most = by (nat_le w 128) refl
+      where
+        by : (b : Bool) → nat_le w 128 ≡ b → nat_le n 128 ≡ b
+        by true q = let less = leb-true w 128 q in le-leb n 128 (omega (arith, less, e))
+        by false q = let more = leb-false w 128 q in lt-leb n 128 (omega (arith, more, e))

@@ -1,20 +1,45 @@
 //! Types whose words channels hold.
 
-ghost use Rattle.std.specs.Prelude.{◌≡◌, ◌&&◌, map, nat_le};
+ghost use Rattle.std.specs.Prelude.{◌≡◌, ◌&&◌, map, nat_le, IfOk};
 ghost use Rattle.std.specs.List.{list_all};
 ghost use Rattle.dslx_config.specs.Channels.Widths.{has_word_widths};
 ghost use Rattle.dslx_core.specs.Lowering.Steps.{can_travel as travels};
+ghost use Rattle.dslx_meaning.specs.Types.{plain_type as the_plain_type};
+ghost use Rattle.xb_value.specs.Width.{width_of};
 
+use crate::channels::plain_type;
 use dslx_core_exprs::alike::is_sized;
 use dslx_meaning::DslxType;
+use std::alloc::{AllocError, Global};
+use xb_value::Ty;
 
-/// Whether a channel holds words of the type: each array in it has an element, and its bits are 1 to 128 wide. A test takes time as
-/// the type is large.
+/// Whether a channel holds words of the type: each array in it has an element, its bits are 1 to 128 wide, and so are all of them.
+/// A test takes time and memory as the type is large.
 #[tactic(auto, using(crate::proofs::OnChannels::Alike::travels_by_widths))]
-pub fn can_travel(ty: &DslxType) -> bool
-    ensures { result ≡ travels ty.now }
+pub fn can_travel(alloc: Global, ty: &DslxType) -> Result<bool, AllocError>
+    ensures { IfOk result (λ can. can ≡ travels ty.now) }
 {
-    is_sized(ty) && has_widths(ty)
+    if is_sized(ty) && has_widths(ty) {
+        fits(alloc, ty)
+    } else {
+        Ok(false)
+    }
+}
+
+/// Whether there are 1 to 128 bits in all.
+fn fits(alloc: Global, ty: &DslxType) -> Result<bool, AllocError>
+    ensures { IfOk result (λ fits. fits ≡ (nat_le 1 (width_of (the_plain_type ty.now)) && nat_le (width_of (the_plain_type ty.now)) 128)) }
+{
+    let plain = plain_type(alloc, ty)?;
+    Ok(has_few_bits(&plain))
+}
+
+#[tactic(auto, using(crate::proofs::OnChannels::Alike::least_says))]
+fn has_few_bits(ty: &Ty) -> bool
+    ensures { result ≡ (nat_le 1 (width_of ty.now) && nat_le (width_of ty.now) 128) }
+{
+    let width = ty.width();
+    1 <= width && width <= 128
 }
 
 /// Whether all bits in the type are 1 to 128 wide.

@@ -13,10 +13,10 @@ use crate::configs::number::spawn_parametric_args;
 use base::texts::Name;
 use dslx_core::Child;
 use dslx_core::networks::ProcInstance;
-use dslx_instance::table::equal_values;
 use dslx_meaning::DslxValue;
 use dslx_scope_names::values::ScopeEnv;
 use dslx_tree::{ConfigStatement, Proc, Spawn};
+use dslx_values::equal_values;
 use std::alloc::{AllocError, Global};
 use xb_value::Seq;
 

@@ -45,17 +45,17 @@ fn member_of<'a>(
     ensures { IfOk result (λ m. (callee : CalleesByName) → m ≡ numbered_member (body_scope callee known.entry [] 0) number end.now) }
 {
     match outer_type(alloc, known, &end.word)? {
-        Some(word) => Ok(travelling(number as u64, word)),
+        Some(word) => travelling(alloc, number as u64, word),
         None => Ok(None),
     }
 }
 
-fn travelling(number: u64, word: DslxType) -> Option<CoreMember>
-    ensures { result ≡ where_true (travels word) (Some (record { number = number; word = word })) }
+fn travelling(alloc: Global, number: u64, word: DslxType) -> Result<Option<CoreMember>, AllocError>
+    ensures { IfOk result (λ m. m ≡ where_true (travels word) (Some (record { number = number; word = word }))) }
 {
-    if can_travel(&word) {
-        Some(CoreMember { number, word })
+    if can_travel(alloc, &word)? {
+        Ok(Some(CoreMember { number, word }))
     } else {
-        None
+        Ok(None)
     }
 }

@@ -1,5 +1,5 @@
 -- What the rules know of a text is of that text.
-use Rattle.std.proofs.Common.{◌≡◌, ℕ, zero, suc, length, refl}
+use Rattle.std.proofs.Common.{◌*◌, ◌≡◌, ℕ, zero, suc, length, refl}
 use Rattle.dslx_tree.specs.declared.item.Module.{Module}
 use Rattle.dslx_meaning.specs.Rules.ModuleRules.{globals_of, globals_within}
 
@@ -8,4 +8,4 @@ within_whole m zero = refl
 within_whole m (suc n) = within_whole m n
 
 pub globals_whole : (m : Module) → (globals_of m).whole ≡ m
-globals_whole m = within_whole m (length m.items)
+globals_whole m = within_whole m (2 * length m.items)

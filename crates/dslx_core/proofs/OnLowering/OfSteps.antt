@@ -1,7 +1,7 @@
 -- The steps of `next` do what its statements do.
 use Rattle.std.proofs.Common.{◌≡◌, ◌&&◌, ℕ, zero, suc, Bool, true, false, not, if◌then◌else◌, List, [], ◌∷◌, map, Option, Some, None, refl, sym, ap, subst, ◌∙◌}
 use mathlib.Core.Bool.{true≢false}
-use Rattle.std.specs.Prelude.{slice_get}
+use Rattle.std.specs.Prelude.{nat_le, slice_get}
 use Rattle.std.specs.Str.{bytes_eq}
 use Rattle.xb_bits.specs.Word.{Word}
 use Rattle.xb_value.specs.declared.ty.Ty.{fold-Ty}
@@ -10,7 +10,7 @@ use Rattle.xb_value.specs.declared.value.Value as plain
 use Rattle.xb_value.specs.Flat.{flat_of}
 use Rattle.xb_value.specs.Typing.{fits}
 use Rattle.xb_value.specs.Unflat.{unflat_of}
-use Rattle.xb_value.specs.Width.{widths_step}
+use Rattle.xb_value.specs.Width.{width_of, widths_step}
 use Rattle.xb_value.proofs.Lemmas.Flat.{gives_typed}
 use Rattle.net_core.specs.Behavior.{Turn, Skip, Receive, Give}
 use Rattle.dslx_tree.specs.declared.block.Block.{out-Block}
@@ -47,7 +47,7 @@ use Rattle.dslx_core.specs.Lowering.Lowering.{LoweredExpr}
 use Rattle.dslx_core.specs.Lowering.Patterns.{LoweredShape, lower_in_scope}
 use Rattle.dslx_core.specs.Lowering.Trees.{lower_expression, of_type, lower_type_of_text}
 use Rattle.dslx_core.specs.Lowering.Functions.{parametric_args_are_well_typed, outer_scope}
-use Rattle.dslx_core.specs.Lowering.Steps.{BindsInScope, CoreMember, LoweredNext, LoweredSteps, StepsLowering, lower_act, binds_nothing, can_travel, lower_compute, end_names, is_sized, last_of_steps, member_in, lower_next, lower_pattern_of_text, lower_receive, lower_send, statement_steps, statements_steps, step_then, steps_from}
+use Rattle.dslx_core.specs.Lowering.Steps.{BindsInScope, CoreMember, LoweredNext, LoweredSteps, StepsLowering, lower_act, binds_nothing, can_travel, fits_word, lower_compute, end_names, is_sized, last_of_steps, member_in, lower_next, lower_pattern_of_text, lower_receive, lower_send, statement_steps, statements_steps, step_then, steps_from}
 use Rattle.dslx_core.specs.Lowering.Activities.{DoesTheSame, NextSimulates}
 use Rattle.dslx_core.specs.Lowering.Correspondence.{BothFit, FitLowerPreserves, KeepsValue, BodyEnvSimulates, NeitherFits, SimulatesInScope, env_at}
 use Rattle.dslx_core.proofs.OnLowering.FromPlain.{from_plain}
@@ -131,8 +131,9 @@ plain_pair v = plain_tuple (value.Token ∷ v ∷ []) ∙ (λ i. plain.Tuple (pl
 -- a word that was received
 word_received : (t : DslxType) → can_travel t ≡ true → (w : Word) → (is_of t (from_word t w) ≡ true) × (plain_value (from_word t w) ≡ unflat_of (plain_type t) w.value)
 word_received t h w =
-    let q = and_true (is_sized t) (fold-Ty Bool widths_step (plain_type t)) h in
-    from_plain t q.0 (unflat_of (plain_type t) w.value) (gives_typed (plain_type t) q.1 w.value)
+    let q = and_true (is_sized t) (fits_word (plain_type t)) h in
+    let widths = and_true (fold-Ty Bool widths_step (plain_type t)) (nat_le 1 (width_of (plain_type t)) && nat_le (width_of (plain_type t)) 128) q.1 in
+    from_plain t q.0 (unflat_of (plain_type t) w.value) (gives_typed (plain_type t) widths.0 w.value)
 
 -- whether a condition holds
 condition_is : (scope : CoreScope) (calls : Functions) (given : List Given) (bound : Bindings) → SimulatesInScope scope calls given bound → (p : Expr) (c : LoweredExpr) → lower_expression p scope ≡ Some c → (b : Bool)

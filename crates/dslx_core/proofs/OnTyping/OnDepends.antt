@@ -18,3 +18,7 @@ pub mod Parametrics
 pub mod OfItems
 -- chains that are long enough
 pub mod Stages
+-- ranks of items
+pub mod Ranks
+-- levels, by ranks
+pub mod Levels

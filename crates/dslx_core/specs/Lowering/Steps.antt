@@ -1,8 +1,8 @@
 -- Which steps the statements of `next` are lowered to.
-use Rattle.std.specs.Prelude.{ℕ, List, [], ◌∷◌, ◌&&◌, map, Bool, true, not, Option, Some, None, slice_get}
+use Rattle.std.specs.Prelude.{ℕ, List, [], ◌∷◌, ◌&&◌, map, nat_le, Bool, true, not, Option, Some, None, slice_get}
 use Rattle.std.specs.List.{list_all}
-use Rattle.xb_value.specs.declared.ty.Ty.{fold-Ty}
-use Rattle.xb_value.specs.Width.{widths_step}
+use Rattle.xb_value.specs.declared.ty.Ty.{Ty, fold-Ty}
+use Rattle.xb_value.specs.Width.{width_of, widths_step}
 use Rattle.dslx_tree.specs.declared.block.Block.{out-Block}
 use Rattle.dslx_tree.specs.declared.block.Let.{out-Let}
 use Rattle.dslx_tree.specs.declared.block.Stmt.{Stmt, out-Stmt}
@@ -55,9 +55,13 @@ sized_step DslxType-F.Token = true
 abbrev pub is_sized : DslxType → Bool
 is_sized = fold-DslxType Bool sized_step
 
+-- a word holds a value of the type: its bits are 1 to 128 wide, and so are all of them
+abbrev pub fits_word : Ty → Bool
+fits_word t = fold-Ty Bool widths_step t && (nat_le 1 (width_of t) && nat_le (width_of t) 128)
+
 -- a type whose words a channel holds
 abbrev pub can_travel : DslxType → Bool
-can_travel t = is_sized t && fold-Ty Bool widths_step (plain_type t)
+can_travel t = is_sized t && fits_word (plain_type t)
 
 -- a member: its number, and the type of its words
 abbrev pub CoreMember : Type 0

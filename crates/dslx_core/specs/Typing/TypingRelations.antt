@@ -2,3 +2,5 @@
 pub mod Reached
 -- instances that reach none but one another, and how long chains of items are
 pub mod Closed
+-- mentions that rule 3 lets pass
+pub mod Cycles

@@ -6,7 +6,7 @@ use Rattle.dslx_meaning.specs.declared.ty.DslxType.{DslxType}
 use Rattle.dslx_core.specs.Lowering.CoreScopes.{CoreCallee}
 use Rattle.dslx_core.specs.Lowering.EqualTypes.{equal_type}
 use Rattle.dslx_core.specs.Lowering.Functions.{CoreInstance, LoweredFunction, callee_of}
-use Rattle.dslx_instance.proofs.OnTable.Pairs.{each_applied}
+use Rattle.dslx_values.proofs.Lemmas.Pairs.{each_applied}
 
 -- an instance of a number as a callee
 abbrev callee : ℕ → LoweredFunction → Option CoreCallee

@@ -7,10 +7,9 @@ ghost use Rattle.std.specs.Cmp.{on_equiv, on_per, partial_equiv_from_equiv};
 ghost use Rattle.dslx_instance.specs.Table.Keys.{fed_of, key_sought, same_key, word_in};
 ghost use Rattle.dslx_instance.specs.Table.KeyLaws.{keys_equivalence, keys_fed_alike};
 
-use crate::table::alike::equal_values;
 use base::texts::Name;
 use dslx_meaning::DslxValue;
-use dslx_values::bits_of;
+use dslx_values::{bits_of, equal_values};
 use indexmap::Equivalent;
 use std::hash::{Hash, Hasher};
 use xb_value::Seq;

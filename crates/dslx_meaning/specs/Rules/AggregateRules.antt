@@ -114,10 +114,10 @@ is_array t = is_there (array_in t)
 abbrev pub index_typing : Span → TypeEnv → ExprPair → ExprPair → Judgement
 index_typing span context e i =
     let whole = alone context e in
-    let place = alone context i in
-    settled span (and_then place.ty (λ k. element_type (and_then whole.ty array_in)))
-    (whole.faults ++ place.faults ++ unless_type is_array rule.PART_IS_THERE span whole.ty ++ unless_type is_unsigned rule.PART_IS_THERE span place.ty)
-    (whole.reached ++ place.reached) (one_and (plus_size whole.size place.size))
+    let index = alone context i in
+    settled span (and_then index.ty (λ k. element_type (and_then whole.ty array_in)))
+    (whole.faults ++ index.faults ++ unless_type is_array rule.PART_IS_THERE span whole.ty ++ unless_type is_unsigned rule.PART_IS_THERE span index.ty)
+    (whole.reached ++ index.reached) (one_and (plus_size whole.size index.size))
 
 -- ---- tuples
 

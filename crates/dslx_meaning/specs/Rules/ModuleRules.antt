@@ -1,5 +1,5 @@
 -- All rules that the parts of a module break and all limits that they pass, and the one fault that is named.
-use Rattle.std.specs.Prelude.{ℕ, zero, suc, List, [], ◌∷◌, ◌++◌, ◌&&◌, nat_lt, map, flat_map, Bool, false, not, Option, Some, None, length, if◌then◌else◌}
+use Rattle.std.specs.Prelude.{ℕ, zero, suc, List, [], ◌∷◌, ◌++◌, ◌*◌, ◌&&◌, nat_lt, map, flat_map, Bool, false, not, Option, Some, None, length, if◌then◌else◌}
 use Rattle.std.specs.List.{list_any, list_all}
 use Rattle.xb_span.specs.declared.span.Span.{Span}
 use Rattle.xb_span.specs.declared.fault.Fault.{Fault}
@@ -26,7 +26,7 @@ use Rattle.dslx_meaning.specs.declared.ty.DslxType.{DslxType}
 use Rattle.dslx_meaning.specs.declared.value.DslxValue.{DslxValue}
 use Rattle.dslx_meaning.specs.Rules.TypeEnvs.{GlobalEnv, TypeEnv, Signature, Judgement, Instance, same_instance, DefaultSeen, breaks, has_broken}
 use Rattle.dslx_meaning.specs.Rules.ConstantRules.{constant_of, is_empty, untyped_typing}
-use Rattle.dslx_meaning.specs.Rules.Mentions.{is_cyclic}
+use Rattle.dslx_meaning.specs.Rules.Mentions.{is_cyclic, item_reaches}
 use Rattle.dslx_meaning.specs.Rules.NameRules.{listed_name}
 use Rattle.dslx_meaning.specs.Rules.PatternRules.{is_there}
 use Rattle.dslx_meaning.specs.Rules.TypeRules.{unless_unit}
@@ -140,7 +140,9 @@ globals_over known = record {
     is_constant = λ name. is_constant_item (item_named name known.whole.items);
     constant = λ name. and_then (as_constant (item_named name known.whole.items)) (λ c. (constant_seen known c).value);
     member = λ name a. and_then (as_enum (item_named name known.whole.items)) (λ e. enum_member_value known e a (member_named a e.members));
-    call = λ name parametric_args operands. and_then (as_function (item_named name known.whole.items)) (λ f. call_of known.items f parametric_args operands);
+    call = λ name parametric_args operands.
+        if item_reaches known.whole name name then None
+        else and_then (as_function (item_named name known.whole.items)) (λ f. call_of known.items f parametric_args operands);
   };
   is_cyclic = is_cyclic known.whole;
   is_sound = sound_instance known;
@@ -151,14 +153,14 @@ globals_over known = record {
   signature_in = λ owner before. signature_of (behind_values known owner before).context (item_named owner known.whole.items);
 }
 
--- the global environment of a use at the head of a chain of at most so many items, each of which mentions the next. No
--- chain without a cycle is longer than the list of items, and rule 3 refuses cycles
+-- the global environment of a use at the head of a chain of at most so many links. Each item on a chain stands for two: its text,
+-- and what it declares, which is looked at also where rule 3 refuses to go on. No chain without a cycle has more items than the text
 abbrev pub globals_within : Module → ℕ → GlobalEnv
 globals_within m zero = no_globals m
 globals_within m (suc n) = globals_over (globals_within m n)
 
 abbrev pub globals_of : Module → GlobalEnv
-globals_of m = globals_within m (length m.items)
+globals_of m = globals_within m (2 * length m.items)
 
 -- ---- instances
 

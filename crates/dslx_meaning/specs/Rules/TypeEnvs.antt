@@ -58,7 +58,8 @@ pub record Signature : Type 0 where
   pub result : Option DslxType
 
 -- the global environment: what is known of the items. A constant has a value only where nothing that it reaches breaks a rule or passes a limit; a
--- type is known only where its declaration breaks no rule. A call has the value that it denotes, whatever it reaches
+-- type is known only where its declaration breaks no rule. A call has the value that it denotes, whatever it breaks;
+-- one of a function that reaches itself has none
 pub record GlobalEnv : Type 0 where
   pub whole : Module
   pub items : Meanings

@@ -11,7 +11,7 @@ use Rattle.xb_value.specs.declared.ty.Ty as ty
 use Rattle.xb_value.specs.declared.value.Value.{Value, Bits, Tuple, Array}
 use Rattle.xb_value.specs.Unflat.{Taker, taken_by, taken_times, take_step, taken_low, unflat_of}
 use Rattle.xb_value.specs.Width.{width_of, widths_step}
-use Rattle.dslx_network.specs.Bodies.{fits_word}
+use Rattle.dslx_core.specs.Lowering.Steps.{fits_word}
 use Rattle.xb_value.proofs.Lemmas.Types as types
 use Rattle.xb_value.proofs.Lemmas.Types.{EachHas, ty_induction}
 

@@ -18,13 +18,14 @@ use Rattle.dslx_meaning.specs.Callees.{is_text_function, kind_of_call}
 use Rattle.dslx_meaning.specs.Lists.{is_in}
 use Rattle.dslx_meaning.specs.Rules.Mentions.{AsFunction, Mention, Mentions, NamesBound, all_mentions, binders_mentions, binders_names, bound_behind, mention, mentioned, mentioned_in_arg, mentioned_in_block, mentioned_in_type, value_mention, value_names}
 use Rattle.dslx_names.specs.ConstMachine.Layers.{PatternLayer, TypeLayer, shape_of, type_of}
+use Rattle.dslx_names.specs.FirstNames.{first_names}
+use Rattle.dslx_names.proofs.Lemmas.FirstNames.{back_to}
 use Rattle.dslx_scope.specs.FreeNames.Found.{all_found, bound_by, bound_by_statements, mentioned_by, names_of_tasks}
 use Rattle.dslx_scope.specs.FreeNames.Mentioned.{in_arm, in_field, in_pattern, in_statements, in_stmt}
 use Rattle.dslx_scope.specs.FreeNames.Steps as s
-use Rattle.dslx_scope.specs.FreeNames.Steps.{first_names, visited, visiting}
+use Rattle.dslx_scope.specs.FreeNames.Steps.{visited, visiting}
 use Rattle.dslx_scope.specs.FreeNames.Tasks as task
 use Rattle.dslx_scope.specs.FreeNames.Tasks.{FreeTask, FreeState}
-use Rattle.dslx_scope.proofs.OnFreeNames.Ends.{back_to}
 use Rattle.dslx_scope.proofs.OnFreeNames.Named.{in_seven, in_three, in_two}
 use Rattle.dslx_scope.proofs.OnFreeNames.Opened.{arg_opened, arm_opened, bind_opened, block_opened, expr_opened, field_mentioned, field_opened, in_loop, in_shape, in_stmt_layer, expr_mentions_if, loop_opened, node_mentioned, number_mentions, number_opened, pattern_opened, stmt_opened, type_mentioned, type_mentions_if, type_opened}
 

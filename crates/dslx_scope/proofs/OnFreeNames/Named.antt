@@ -1,8 +1,6 @@
--- The names of values among what is mentioned, and names among others.
-use Rattle.std.proofs.Common.{◌≡◌, ℕ, Bool, true, false, if◌then◌else◌, List, [], ◌∷◌, ◌++◌, reverse, refl, ap, ◌∙◌}
-use Rattle.std.specs.Str.{bytes_eq}
-use Rattle.std.proofs.lemmas.List.{append_assoc, reverse-append}
-use Rattle.dslx_meaning.specs.Lists.{is_in}
+-- The names of values among what is mentioned.
+use Rattle.std.proofs.Common.{◌≡◌, ℕ, List, [], ◌∷◌, ◌++◌, refl, ap, ◌∙◌}
+use Rattle.std.proofs.lemmas.List.{append_assoc}
 use Rattle.dslx_meaning.specs.Rules.Mentions.{Use, AsValue, AsPattern, AsType, AsFunction, AsProc, AsEnum, AsStruct, Mention, value_names}
 
 pub value_names_append : (ms ns : List Mention) → value_names (ms ++ ns) ≡ value_names ms ++ value_names ns
@@ -34,27 +32,3 @@ in_seven as' bs cs ds es fs gs behind =
     ∙ in_two (as' ++ bs ++ cs ++ ds) es (value_names fs ++ (value_names gs ++ behind))
     ∙ in_two (as' ++ bs ++ cs) ds (value_names es ++ (value_names fs ++ (value_names gs ++ behind)))
     ∙ in_three as' bs cs (value_names ds ++ (value_names es ++ (value_names fs ++ (value_names gs ++ behind))))
-
--- ---- whether a name is among others, in any order
-
-in_either : (name : List ℕ) (xs ys : List (List ℕ)) → is_in name (xs ++ ys) ≡ (if is_in name xs then true else is_in name ys)
-in_either name [] ys = refl
-in_either name (x ∷ xs) ys = by (bytes_eq name x) (in_either name xs ys)
-  where
-    by : (b : Bool) → is_in name (xs ++ ys) ≡ (if is_in name xs then true else is_in name ys)
-        → (if b then true else is_in name (xs ++ ys)) ≡ (if (if b then true else is_in name xs) then true else is_in name ys)
-    by true e = refl
-    by false e = e
-
--- the last of them may as well be asked first
-last_first : (a b : Bool) → (if a then true else (if b then true else false)) ≡ (if b then true else a)
-last_first true true = refl
-last_first true false = refl
-last_first false true = refl
-last_first false false = refl
-
-pub is_in_reverse : (name : List ℕ) (xs : List (List ℕ)) → is_in name (reverse xs) ≡ is_in name xs
-is_in_reverse name [] = refl
-is_in_reverse name (x ∷ xs) =
-    ap (is_in name) (reverse-append (x ∷ []) xs) ∙ in_either name (reverse xs) (x ∷ []) ∙ ap (λ (b : Bool). if b then true else is_in name (x ∷ [])) (is_in_reverse name xs)
-    ∙ last_first (is_in name xs) (bytes_eq name x)

@@ -1,5 +1,5 @@
 -- What each step does with a part of a tree: its own parts are to be visited, in order.
-use Rattle.std.specs.Prelude.{ℕ, List, [], ◌∷◌, ◌++◌, ◌-◌, drop, length, Option, Some, None, if◌then◌else◌}
+use Rattle.std.specs.Prelude.{ℕ, List, [], ◌∷◌, ◌++◌, length, Option, Some, None, if◌then◌else◌}
 use Rattle.dslx_tree.specs.declared.block.Block.{Block, out-Block}
 use Rattle.dslx_tree.specs.declared.block.Let.{out-Let}
 use Rattle.dslx_tree.specs.declared.block.Stmt.{Stmt, out-Stmt}
@@ -14,6 +14,7 @@ use Rattle.dslx_tree.specs.declared.pattern.Pattern.{Pattern}
 use Rattle.dslx_tree.specs.declared.type_expr.TypeExpr.{TypeExpr}
 use Rattle.dslx_meaning.specs.Activation.{NodeLayer, StmtLayer, node_of}
 use Rattle.dslx_meaning.specs.Lists.{is_in}
+use Rattle.dslx_names.specs.FirstNames.{first_names}
 use Rattle.dslx_names.specs.ConstMachine.Layers.{PatternLayer, TypeLayer, shape_of, type_of}
 use Rattle.dslx_scope.specs.FreeNames.Tasks as task
 use Rattle.dslx_scope.specs.FreeNames.Tasks.{FreeTask, FreeState}
@@ -32,10 +33,6 @@ meets_name name run = if is_in name run.bound then run else record run { found =
 
 abbrev pub binding_name : List ℕ → FreeState → FreeState
 binding_name name run = record run { bound = name ∷ run.bound }
-
--- so many of these names, the first ones, where the last one stands first
-abbrev pub first_names : ℕ → List (List ℕ) → List (List ℕ)
-first_names n names = drop (length names - n) names
 
 abbrev pub keeping_names : ℕ → FreeState → FreeState
 keeping_names n run = record run { bound = first_names n run.bound }

@@ -4,11 +4,11 @@ ghost use Rattle.dslx_scope.specs.FreeNames.Plain.{plain_task};
 ghost use Rattle.dslx_scope.specs.FreeNames.Found.{mentioned_by};
 
 use crate::free_names::machine::Machine;
-use crate::free_names::names::Names;
 use crate::free_names::step::step;
 use crate::free_names::task::Task;
 use base::stacks::Stack;
 use base::texts::Name;
+use dslx_names::BoundNames;
 use dslx_tree::{Expr, TypeExpr};
 use std::alloc::{AllocError, Global};
 
@@ -35,7 +35,7 @@ fn names_from<'a>(alloc: Global, task: Task<'a>) -> Result<Vec<&'a Name>, AllocE
 {
     let mut machine = Machine {
         tasks: Stack::new(alloc),
-        bound: Names::new(alloc),
+        bound: BoundNames::new(alloc),
         found: Vec::new(alloc),
     };
     machine.tasks.push(task)?;

@@ -2,10 +2,10 @@ ghost use Rattle.std.specs.Prelude.{◌≡◌, ◌∷◌, [], OnOk};
 ghost use Rattle.dslx_scope.specs.FreeNames.Plain.{shown, plain_task};
 ghost use Rattle.dslx_scope.specs.FreeNames.Steps.{visiting, meets_name, binding_name, keeping_names, keeps_bound, type_visited, expr_visited};
 
-use crate::free_names::names::Names;
 use crate::free_names::task::Task;
 use base::stacks::Stack;
 use base::texts::Name;
+use dslx_names::BoundNames;
 use dslx_tree::{Expr, TypeExpr};
 use std::alloc::AllocError;
 use xb_value::Boxed;
@@ -16,7 +16,7 @@ pub(crate) struct Machine<'a> {
     /// What is still to be visited, the next on the top.
     pub(crate) tasks: Stack<Task<'a>>,
     /// What is bound there.
-    pub(crate) bound: Names<'a>,
+    pub(crate) bound: BoundNames<'a>,
     /// The free names so far.
     pub(crate) found: Vec<&'a Name>,
 }

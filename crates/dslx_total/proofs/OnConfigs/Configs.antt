@@ -64,7 +64,7 @@ constant_reaches P context e h = by_untyped (untyped_of e)
     by_untyped None = h
     by_untyped (Some number) = tt
 
-depth_reaches : (P : List ℕ → Bool) (context : TypeEnv) (o : Option Arg) (bound : List (List ℕ)) → MentionsReach P context.known (arg_if o bound) → AllNamed P (depth_found context o).reached
+depth_reaches : (P : List ℕ → Bool) (context : TypeEnv) (o : Option Arg) (bound : List (List ℕ)) → MentionsReach P context.known context.owner (arg_if o bound) → AllNamed P (depth_found context o).reached
 depth_reaches P context None bound h = tt
 depth_reaches P context (Some a) bound h = let e = (arg_pair a).1 in constant_reaches P context e (unmarked P (span_of e) (within context e) (argument_reaches P a bound false context h))
 
@@ -135,8 +135,8 @@ module _ (m : Module) (top : Option (List ℕ)) (s : IsAccepted m top) (procs : 
         let P = Passing m top s in
         all_sound m top s (word.reached ++ depth.reached)
         (join P word.reached depth.reached
-        (written_type_reaches P c.word bound behind (reaching m top s (mentioned_in_type c.word bound) (no_proc_in_type c.word bound) q.0))
-        (depth_reaches P behind c.depth bound (reaching m top s (arg_if c.depth bound) (depth_none c.depth bound) q.1))) r
+        (written_type_reaches P c.word bound behind (reaching m top s behind.owner (mentioned_in_type c.word bound) (no_proc_in_type c.word bound) q.0))
+        (depth_reaches P behind c.depth bound (reaching m top s behind.owner (arg_if c.depth bound) (depth_none c.depth bound) q.1))) r
 
     config_statements_become : (made : Made) (ms : List ConfigStatement) → AreNumbered held (made_at_end context made ms).names → Within m (most m top s) (flat_map (λ (x : ConfigStatement). config_statement_mentions x bound) ms) → (config_statements_found context made ms).faults ≡ []
         → Listed m top s (config_statements_found context made ms).reached → StatementsLower ms

@@ -106,7 +106,7 @@ members_are_there here context env outer ends h at k clean name o q =
       is = ap (λ p. and_then p (λ k. and_then (slice_get ends k) (λ e. and_then (lower_type_of_text e.word outer) (λ t. where_true (can_travel t) (Some (record { number = k; word = t })))))) e.is
           ∙ ap (λ p. and_then p (λ (x : End). and_then (lower_type_of_text x.word outer) (λ t. where_true (can_travel t) (Some (record { number = e.number; word = t }))))) e.got
           ∙ ap (λ p. and_then p (λ t. where_true (can_travel t) (Some (record { number = e.number; word = t })))) t.is
-          ∙ ap (λ b. where_true b (Some (record { number = e.number; word = t.ty }))) (λ i. sized i && e.words.widths t.ty t.typed i);
+          ∙ ap (λ b. where_true b (Some (record { number = e.number; word = t.ty }))) (λ i. sized i && e.words.fits t.ty t.typed i);
       word = e.word ∙ t.typed;
       declared = t.declared;
     }

@@ -1,6 +1,7 @@
 -- Instances of procs of a text without faults: nothing is wrong with what they do outside their `config`.
-use Rattle.std.proofs.Common.{◌≡◌, ◌&&◌, ◌++◌, ℕ, length, Bool, true, false, List, [], ◌∷◌, map, Option, sym, ap, subst, ◌∙◌}
+use Rattle.std.proofs.Common.{◌*◌, ◌≡◌, ◌&&◌, ◌++◌, ℕ, length, Bool, true, false, List, [], ◌∷◌, map, Option, sym, ap, subst, ◌∙◌}
 use Rattle.std.specs.List.{list_all}
+use Rattle.xb_span.specs.declared.fault.Fault.{Fault}
 use Rattle.xb_span.specs.declared.limit.What.TheVariants as what
 use Rattle.dslx_tree.specs.declared.block.Block.{out-Block}
 use Rattle.dslx_tree.specs.declared.item.Module.{Module}
@@ -36,7 +37,7 @@ module _ (m : Module) (top : Option (List ℕ)) (s : IsAccepted m top) where
     pub among : IsOneOf (record { name = p.name.name; parametric_args = parametric_args }) (all m top s)
 
   pub seen_there : (p : Proc) (parametric_args : List DslxValue) → IsProcOf m p → found_of_instance (K m top s) (record { name = p.name.name; parametric_args = parametric_args }) ≡ proc_seen (K m top s) p parametric_args
-  seen_there p parametric_args e = ap (found_of_item (K m top s) parametric_args) ((λ i. item_named p.name.name (whole_is m (length m.items) i).items) ∙ e)
+  seen_there p parametric_args e = ap (found_of_item (K m top s) parametric_args) ((λ i. item_named p.name.name (whole_is m (2 * length m.items) i).items) ∙ e)
 
   pub no_faults : (p : Proc) (parametric_args : List DslxValue) → IsChecked p parametric_args → (proc_seen (K m top s) p parametric_args).faults ≡ []
   no_faults p parametric_args h =
@@ -63,7 +64,7 @@ module _ (m : Module) (top : Option (List ℕ)) (s : IsAccepted m top) where
     listed = z.0;
     passing = named;
     checked = acted;
-    acts = record { faults = λ i. (a.0 i) ++ ((b.0 i) ++ c.1 i); reached = all_sound m top s acts.reached named acted };
+    acts = record { faults = λ i. (a.0 i) ++ ((b.0 i) ++ ((e.0 i) ++ ((f.0 i) ++ ((g.0 i) ++ f.1 i)))); reached = all_sound m top s acts.reached named acted };
   }
     where
       known : GlobalEnv
@@ -102,11 +103,17 @@ module _ (m : Module) (top : Option (List ℕ)) (s : IsAccepted m top) where
       acts : Found
       acts = acts_found known p parametric_args
 
+      name : List Fault
+      name = local_name context [] p.next.state
+
+      ended : List Fault
+      ended = next.faults ++ passes_count what.Sites 32 p.span.to (count_sites (out-Block p.next.body).statements)
+
       -- what stands behind the `config`
       rest : Found
       rest = record {
-        faults = init.faults ++ (local_name context [] p.next.state ++ (state.faults ++ (next.faults ++ passes_count what.Sites 32 p.span.to (count_sites (out-Block p.next.body).statements))));
-        reached = init.reached ++ ([] ++ (state.reached ++ (next.reached ++ [])));
+        faults = state.faults ++ (init.faults ++ (name ++ ended));
+        reached = state.reached ++ (init.reached ++ (next.reached ++ []));
       }
 
       a : (parametrics.faults ≡ []) × ((members.faults ++ (config.faults ++ rest.faults)) ≡ [])
@@ -118,6 +125,15 @@ module _ (m : Module) (top : Option (List ℕ)) (s : IsAccepted m top) where
       c : (config.faults ≡ []) × (rest.faults ≡ [])
       c = none_in config.faults rest.faults b.1
 
+      g : (state.faults ≡ []) × ((init.faults ++ (name ++ ended)) ≡ [])
+      g = none_in state.faults (init.faults ++ (name ++ ended)) c.1
+
+      e : (init.faults ≡ []) × ((name ++ ended) ≡ [])
+      e = none_in init.faults (name ++ ended) g.1
+
+      f : (name ≡ []) × (ended ≡ [])
+      f = none_in name ended e.1
+
       x : (list_all test parametrics.reached ≡ true) × (list_all test (members.reached ++ (config.reached ++ rest.reached)) ≡ true)
       x = all_in test parametrics.reached (members.reached ++ (config.reached ++ rest.reached)) (all_checked p parametric_args h)
 
@@ -128,7 +144,12 @@ module _ (m : Module) (top : Option (List ℕ)) (s : IsAccepted m top) where
       z = all_in test config.reached rest.reached y.1
 
       acted : Listed m top s acts.reached
-      acted = both_pass test parametrics.reached (members.reached ++ rest.reached) x.0 (both_pass test members.reached rest.reached y.0 z.1)
+      acted =
+          let v = all_in test state.reached (init.reached ++ (next.reached ++ [])) z.1 in
+          let w = all_in test init.reached (next.reached ++ []) v.1 in
+          let later = state.reached ++ (next.reached ++ []) in
+          both_pass test parametrics.reached (members.reached ++ (init.reached ++ later)) x.0
+          (both_pass test members.reached (init.reached ++ later) y.0 (both_pass test init.reached later w.0 (both_pass test state.reached (next.reached ++ []) v.0 w.1)))
 
       named : AllNamed (Passing m top s) acts.reached
       named =
@@ -136,14 +157,14 @@ module _ (m : Module) (top : Option (List ℕ)) (s : IsAccepted m top) where
           let within = proc_there m top s p h.named in
           let parametric_args_bound = parametric_names p.parametrics in
           let later = p.next.state.name ∷ parametric_args_bound in
-          join P parametrics.reached (members.reached ++ rest.reached)
-          (found_parametrics P known p.name.name [] [] p.parametrics parametric_args [] (reaching m top s (parametrics_mentions p.parametrics []) (parametrics_none p.parametrics []) within.parametrics))
-          (join P members.reached rest.reached
-          (found_ends P context [] p.members parametric_args_bound (reaching m top s (ends_mentions p.members parametric_args_bound) (ends_none p.members parametric_args_bound) within.members))
+          join P parametrics.reached (members.reached ++ (init.reached ++ (state.reached ++ (next.reached ++ []))))
+          (found_parametrics P known p.name.name [] [] p.parametrics parametric_args [] (reaching m top s p.name.name (parametrics_mentions p.parametrics []) (parametrics_none p.parametrics []) within.parametrics))
+          (join P members.reached (init.reached ++ (state.reached ++ (next.reached ++ [])))
+          (found_ends P context [] p.members parametric_args_bound (reaching m top s p.name.name (ends_mentions p.members parametric_args_bound) (ends_none p.members parametric_args_bound) within.members))
           (join P init.reached (state.reached ++ (next.reached ++ []))
-          (block_of_text_reaches P p.init parametric_args_bound false inside (reaching m top s (mentioned_in_block p.init parametric_args_bound) (no_proc_in_block p.init parametric_args_bound) within.init))
+          (block_of_text_reaches P p.init parametric_args_bound false inside (reaching m top s p.name.name (mentioned_in_block p.init parametric_args_bound) (no_proc_in_block p.init parametric_args_bound) within.init))
           (join P state.reached (next.reached ++ [])
-          (written_type_reaches P p.next.ty parametric_args_bound context (reaching m top s (mentioned_in_type p.next.ty parametric_args_bound) (no_proc_in_type p.next.ty parametric_args_bound) within.state))
+          (written_type_reaches P p.next.ty parametric_args_bound context (reaching m top s p.name.name (mentioned_in_type p.next.ty parametric_args_bound) (no_proc_in_type p.next.ty parametric_args_bound) within.state))
           (join P next.reached []
-          (block_of_text_reaches P p.next.body later true last (reaching m top s (mentioned_in_block p.next.body later) (no_proc_in_block p.next.body later) within.next))
+          (block_of_text_reaches P p.next.body later true last (reaching m top s p.name.name (mentioned_in_block p.next.body later) (no_proc_in_block p.next.body later) within.next))
           tt))))

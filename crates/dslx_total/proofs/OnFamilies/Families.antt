@@ -1,7 +1,6 @@
 -- A proc with which nothing is wrong, and all that it spawns, as they are placed in a network.
 use Rattle.std.proofs.Common.{◌≡◌, ◌+◌, ◌++◌, ℕ, zero, suc, length, List, [], ◌∷◌, Option, Some, sym, ap, subst, ◌∙◌}
 use Rattle.std.specs.Prelude.{flat_map}
-use Rattle.dslx_tree.specs.declared.item.Definition.TheVariants as d
 use Rattle.dslx_tree.specs.declared.item.Module.{Module}
 use Rattle.dslx_tree.specs.declared.process.End.{End}
 use Rattle.dslx_tree.specs.declared.process.ConfigStatement.{ConfigStatement}

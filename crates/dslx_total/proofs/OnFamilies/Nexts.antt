@@ -1,5 +1,5 @@
 -- The `next` of an instance of a proc of a text without faults becomes steps, where its functions are at hand, and its `init` has a value.
-use Rattle.std.proofs.Common.{◌≡◌, ◌≤◌, ◌&&◌, ◌++◌, ℕ, length, Bool, true, false, List, [], ◌∷◌, map, Option, Some, arith, refl, sym, subst, ◌∙◌}
+use Rattle.std.proofs.Common.{◌*◌, ◌≡◌, ◌≤◌, ◌&&◌, ◌++◌, ℕ, length, Bool, true, false, List, [], ◌∷◌, map, Option, Some, arith, refl, sym, subst, ◌∙◌}
 use Rattle.std.specs.List.{list_all}
 use Rattle.dslx_tree.specs.declared.block.Block.{out-Block}
 use Rattle.dslx_tree.specs.declared.item.Module.{Module}
@@ -33,7 +33,7 @@ use Rattle.dslx_core.proofs.Lemmas.Typing.Complete.{item_env}
 use Rattle.dslx_core.specs.Lowering.CoreScopes.{BodyEnv, CoreScope}
 use Rattle.dslx_core.specs.Lowering.Functions.{callee_in, outer_scope}
 use Rattle.dslx_core.specs.Lowering.Steps.{lower_next}
-use Rattle.dslx_total.specs.Expressions.Beside.{NamesHaveWidths, ScopeMatchesEnv}
+use Rattle.dslx_total.specs.Expressions.Beside.{NamesAreFull, NamesHaveWidths, ScopeMatchesEnv}
 use Rattle.dslx_total.specs.Expressions.InstanceLists.{AreThere}
 use Rattle.dslx_total.specs.Expressions.ExprLowering.{IsClean}
 use Rattle.dslx_total.specs.Expressions.Members.{EachHasWords}
@@ -48,7 +48,7 @@ use Rattle.dslx_total.proofs.OnFamilies.There.{IsThere, well}
 
 -- the laws of parts of `next`
 abbrev pub WordsHaveWidths : Type 0
-WordsHaveWidths = (context : TypeEnv) (env : Env) → IsWellTypedEnv context env → NamesHaveWidths context.known → (before : List (List ℕ)) (ends : List End) → (ends_found context before ends).faults ≡ []
+WordsHaveWidths = (context : TypeEnv) (env : Env) → IsWellTypedEnv context env → NamesHaveWidths context.known → NamesAreFull context.known → (before : List (List ℕ)) (ends : List End) → (ends_found context before ends).faults ≡ []
     → EachHasWords context ends
 
 abbrev pub MembersThere : Type 0
@@ -104,7 +104,7 @@ module _ (m : Module) (top : Option (List ℕ)) (s : IsAccepted m top) where
       let one = one_of_text (types_at context) t g.0 alike ((type_has_den p.next.ty).means context env place t is).1 g.2.declared in
       record { value = g.2.value; is = g.2.is; of = subst (λ u. is_of u g.2.value ≡ true) (sym one) g.2.of }
 
-module _ (m : Module) (top : Option (List ℕ)) (s : IsAccepted m top) (complete : IsComplete (K m top s)) (typed : AreTyped (K m top s)) (names : NamesHaveWidths (K m top s))
+module _ (m : Module) (top : Option (List ℕ)) (s : IsAccepted m top) (complete : IsComplete (K m top s)) (typed : AreTyped (K m top s)) (names : NamesHaveWidths (K m top s)) (full : NamesAreFull (K m top s))
     (widths : WordsHaveWidths) (members : MembersThere) (nexts : NextsLower) (same : (K m top s).items ≡ meanings_of m) (f : FunctionsHaveTable m top) where
   abbrev known : GlobalEnv
   known = K m top s
@@ -149,12 +149,12 @@ module _ (m : Module) (top : Option (List ℕ)) (s : IsAccepted m top) (complete
       let parametrics = parametrics_found known p.name.name [] [] p.parametrics parametric_args in
       let ends = ends_found context [] p.members in
       let listed = (all_in here ends.reached _ (all_in here parametrics.reached (ends.reached ++ _) whole).1).0 in
-      let stand = members here context env (outer_scope core) p.members elaborated at (widths context env elaborated names [] p.members parts.members) (record { faults = parts.members; reached = listed }) in
+      let stand = members here context env (outer_scope core) p.members elaborated at (widths context env elaborated names full [] p.members parts.members) (record { faults = parts.members; reached = listed }) in
       let next = nexts here known p parametric_args env core there.own elaborated at stand (record { faults = parts.acts.faults; reached = whole }) in
       let first = opening_there m top s p parametric_args there.own elaborated parts.acts next.next.state next.state in
       record {
         next = next.next;
-        is = (λ t. lower_next (record { items = sym same t; parametric_args = bound; callee = callee_in (sym (whole_is m (length m.items)) t) (sym same t) f.known.table }) p) ∙ next.is;
+        is = (λ t. lower_next (record { items = sym same t; parametric_args = bound; callee = callee_in (sym (whole_is m (2 * length m.items)) t) (sym same t) f.known.table }) p) ∙ next.is;
         opening = first.value;
         opens = (λ t. value_of_block p.init (record { items = sym same t; bound = bound })) ∙ first.is;
         of = first.of;

@@ -1,6 +1,6 @@
 -- Parametrics of procs: what is known of their types and defaults is what is meant, and where nothing is wrong with them they
 -- are known.
-use Rattle.std.proofs.Common.{◌≡◌, ◌≤◌, ◌&&◌, ◌++◌, ℕ, zero, suc, length, Bool, true, not, List, [], ◌∷◌, map, Option, Some, None, arith, refl, sym, ap, subst, ◌∙◌}
+use Rattle.std.proofs.Common.{◌*◌, ◌≡◌, ◌≤◌, ◌&&◌, ◌++◌, ℕ, zero, suc, length, Bool, true, not, List, [], ◌∷◌, map, Option, Some, None, arith, refl, sym, ap, subst, ◌∙◌}
 use mathlib.Core.Bool.{true≢false}
 use Rattle.std.specs.List.{list_all}
 use Rattle.dslx_tree.specs.declared.expr.Expr.{Expr}
@@ -49,18 +49,18 @@ no_proc_enum (Some (d.Alias a)) e = refl
 no_proc_enum (Some (d.Struct x)) e = refl
 no_proc_enum None e = refl
 
-module _ (m : Module) (plain : BindsNoConstant m) (k : ℕ) (owner : List ℕ) (own : list_all (ends_within m k) (mentions_of m (item_named owner m.items)) ≡ true) where
+module _ (m : Module) (plain : BindsNoConstant m) (k j : ℕ) (long : k ≤ j) (owner : List ℕ) (own : list_all (ends_within m k) (mentions_of m (item_named owner m.items)) ≡ true) where
   abbrev a : GlobalEnv
-  a = globals_within m k
+  a = globals_within m j
 
   abbrev b : GlobalEnv
-  b = globals_within m (suc k)
+  b = globals_within m (suc j)
 
   abbrev Passing : List ℕ → Bool
   Passing = passes m k
 
   there : Stage Passing m a b
-  there = let same : k ≤ k = omega arith in let more : k ≤ suc k = omega arith in stage m plain k k (suc k) same more
+  there = let more : k ≤ suc j = omega (arith, long) in stage m plain k j (suc j) long more
 
   abbrev ExprDen : List Mention → Type 0
   ExprDen ms = list_all Passing (names_mentioned m ms) ≡ true
@@ -111,7 +111,7 @@ module _ (m : Module) (plain : BindsNoConstant m) (k : ℕ) (owner : List ℕ) (
   pub proc_alike : (p : Proc) → item_named owner m.items ≡ Some (d.Proc p) → NamesAlike a b (parametric_names p.parametrics) → ExprDen (parametrics_mentions p.parametrics [])
       → ExprDen (ends_mentions p.config.ends (parametric_names p.parametrics)) → DeclaredAlike b (globals_over b) owner
   proc_alike p is none ps es =
-      declared_alike a b owner (d.Proc p) (at (whole_is m k)) (at (whole_is m k)) LeftAlike left_next
+      declared_alike a b owner (d.Proc p) (at (whole_is m j)) (at (whole_is m j)) LeftAlike left_next
       (λ bound q qs h given unknown. inner_same (env_behind a owner given unknown) b (type_pair q.ty) (type_alike bound h.hidden q.ty (first_den bound q qs h).0 given unknown))
       (λ bound q qs h given unknown. default_alike bound h.hidden q.default (first_den bound q qs h).1 given unknown)
       (λ given unknown i. record { arguments = ends_alike p.config.ends (parametric_names p.parametrics) none es given unknown i; result = None })
@@ -147,15 +147,17 @@ module _ (m : Module) (plain : BindsNoConstant m) (p : Proc) (named : IsProcOf m
   pub globals_alike : AreNoConstants m (parametric_names p.parametrics) → DeclaredAlike (globals_of m) (globals_over (globals_of m)) p.name.name
   globals_alike hidden = one_longer m p.name.name ends (λ k e.
       let h : mentions_at k = (λ i. ends_within m (sym e i) p.name.name) ∙ ends in
-      let less : k ≤ k = omega arith in
-      let more : k ≤ suc k = omega arith in
-      subst (λ n. DeclaredAlike (globals_within m n) (globals_over (globals_within m n)) p.name.name) (sym e)
-      (proc_alike m plain k p.name.name h p named
-      (plain_alike (passes m k) m (globals_within m k) (globals_within m (suc k)) (passes_closed m k) (stage m plain k k (suc k) less more) (parametric_names p.parametrics) hidden) (own_parametrics k h) (own_ends k h)))
+      let j = suc (2 * k) in
+      let level : 2 * length m.items ≡ suc j = omega (arith, e) in
+      let less : k ≤ j = omega arith in
+      let more : k ≤ suc j = omega arith in
+      subst (λ n. DeclaredAlike (globals_within m n) (globals_over (globals_within m n)) p.name.name) (sym level)
+      (proc_alike m plain k j less p.name.name h p named
+      (plain_alike (passes m k) m (globals_within m j) (globals_within m (suc j)) (passes_closed m k) (stage m plain k j (suc j) less more) (parametric_names p.parametrics) hidden) (own_parametrics k h) (own_ends k h)))
 
   -- it has the item in what is known
   pub proc_known : item_named p.name.name (globals_of m).whole.items ≡ Some (d.Proc p)
-  proc_known = (λ i. item_named p.name.name (whole_is m (length m.items) i).items) ∙ named
+  proc_known = (λ i. item_named p.name.name (whole_is m (2 * length m.items) i).items) ∙ named
 
   pub own_ends_alike : AreNoConstants m (parametric_names p.parametrics) → EndsAreTyped (globals_of m) p
   own_ends_alike hidden parametric_args =
@@ -166,11 +168,13 @@ module _ (m : Module) (plain : BindsNoConstant m) (p : Proc) (named : IsProcOf m
   parametrics_pass = one_longer m p.name.name ends (λ k e.
       let P = passes m (length m.items) in
       let within = proc_within m (length m.items) p ((λ i. list_all (ends_within m (length m.items)) (mentions_of m (sym named i))) ∙ closed m (length m.items) p.name.name ends) in
-      let here : item_named p.name.name (globals_within m k).whole.items ≡ Some (d.Proc p) = (λ i. item_named p.name.name (whole_is m k i).items) ∙ named in
-      subst (λ n. DeclarationReaches P (globals_within m n) p.name.name) (sym e)
-      (parametrics_reach P (globals_within m k) p.name.name
-      (subst (λ o. MentionsReach P (globals_within m k) (parametrics_mentions (parametrics_of o) [])) (sym here)
-      (den_reach P m (passes_closed m (length m.items)) k (parametrics_mentions p.parametrics []) (names_no_procs m (length m.items) (parametrics_mentions p.parametrics []) (parametrics_none p.parametrics []) within.parametrics)))))
+      let j = suc (2 * k) in
+      let level : 2 * length m.items ≡ suc j = omega (arith, e) in
+      let here : item_named p.name.name (globals_within m j).whole.items ≡ Some (d.Proc p) = (λ i. item_named p.name.name (whole_is m j i).items) ∙ named in
+      subst (λ n. DeclarationReaches P (globals_within m n) p.name.name) (sym level)
+      (parametrics_reach P (globals_within m j) p.name.name
+      (subst (λ o. MentionsReach P (globals_within m j) p.name.name (parametrics_mentions (parametrics_of o) [])) (sym here)
+      (den_reach P m (passes_closed m (length m.items)) j p.name.name (parametrics_mentions p.parametrics []) (names_no_procs m (length m.items) (parametrics_mentions p.parametrics []) (parametrics_none p.parametrics []) within.parametrics)))))
 
 -- ---- what is known
 

@@ -1,5 +1,5 @@
 -- What the parts of a text without faults reach that mention no proc: sound instances.
-use Rattle.std.proofs.Common.{◌≡◌, ◌≤◌, ◌&&◌, ◌++◌, ℕ, length, Bool, true, List, [], ◌∷◌, Option, Some, arith, inl, inr, refl, sym, ◌∙◌}
+use Rattle.std.proofs.Common.{◌*◌, ◌≡◌, ◌≤◌, ◌&&◌, ◌++◌, ℕ, length, Bool, true, List, [], ◌∷◌, Option, Some, arith, inl, inr, refl, sym, ◌∙◌}
 use Rattle.std.specs.List.{list_all}
 use Rattle.dslx_tree.specs.declared.item.Definition.TheVariants as d
 use Rattle.dslx_tree.specs.declared.item.Module.{Module}
@@ -98,5 +98,5 @@ module _ (m : Module) (top : Option (List ℕ)) (s : IsAccepted m top) where
   proc_there p e = proc_within m most p ((λ i. list_all (ends_within m most) (mentions_of m (sym e i))) ∙ closed m most p.name.name (every_item m s.free p.name.name (d.Proc p) e))
 
   -- where no proc is mentioned, what is reached passes
-  pub reaching : (ms : List Mention) → NoProcs ms → Within m most ms → MentionsReach Passing K ms
-  reaching ms none h = den_reach Passing m (passes_closed m most) most ms (names_no_procs m most ms none h)
+  pub reaching : (owner : List ℕ) (ms : List Mention) → NoProcs ms → Within m most ms → MentionsReach Passing K owner ms
+  reaching owner ms none h = den_reach Passing m (passes_closed m most) (2 * most) owner ms (names_no_procs m most ms none h)

@@ -1,6 +1,6 @@
 -- Spawns with which nothing is wrong: their parametric arguments are known and of the types of their parameters, and the instance that
 -- they spawn is checked.
-use Rattle.std.proofs.Common.{◌≡◌, ◌&&◌, ◌||◌, ◌++◌, ◌==◌, ℕ, length, Bool, true, false, not, if◌then◌else◌, List, [], ◌∷◌, map, Option, Some, None, refl, sym, ap, subst, ◌∙◌}
+use Rattle.std.proofs.Common.{◌*◌, ◌≡◌, ◌&&◌, ◌||◌, ◌++◌, ◌==◌, ℕ, length, Bool, true, false, not, if◌then◌else◌, List, [], ◌∷◌, map, Option, Some, None, refl, sym, ap, subst, ◌∙◌}
 use mathlib.Core.Bool.{true≢false}
 use Rattle.std.specs.Prelude.{flat_map, nat_lt}
 use Rattle.std.specs.List.{list_all}
@@ -198,7 +198,7 @@ module _ (m : Module) (top : Option (List ℕ)) (s : IsAccepted m top) (procs : 
         let c = all_in test (reached_of_all given) spawned.reached r in
         let arguments = flat_map (λ (x : Arg). mentioned_in_arg x bound) sp.arguments in
         let denotation = (den_parts (ends_within m (most m top s)) m (mention AsProc sp.target.name) arguments within).1 in
-        let passing = given_reach (Passing m top s) (behind_ends context made) (map arg_pair sp.arguments) (arguments_reach (Passing m top s) (behind_ends context made) sp.arguments bound (reaching m top s arguments (arguments_none sp.arguments bound) denotation)) in
+        let passing = given_reach (Passing m top s) (behind_ends context made) (map arg_pair sp.arguments) (arguments_reach (Passing m top s) (behind_ends context made) sp.arguments bound (reaching m top s context.owner arguments (arguments_none sp.arguments bound) denotation)) in
         let g = parametric_args_given (behind_ends context made) env (well_behind context env made well) (map arg_pair sp.arguments) (map arg_denotation sp.arguments) (each_argument sp.arguments) a.0 (all_sound m top s (reached_of_all given) passing c.0) in
         by_proc (as_proc (item_named sp.target.name known.whole.items)) refl b.0 g b.1 c.1
       where
@@ -215,4 +215,4 @@ module _ (m : Module) (top : Option (List ℕ)) (s : IsAccepted m top) (procs : 
             → Listed m top s (spawn_of context made sp (gs made sp) o).reached → SpawnThere made env sp
         by_proc None q ends g f r = some_fault (breaks 1 sp.target.span) [] f
         by_proc (Some target) q ends g f r =
-            by_count target ((λ t. as_proc (item_named sp.target.name (sym (whole_is m (length m.items)) t).items)) ∙ q) (enough target) refl ends g f r
+            by_count target ((λ t. as_proc (item_named sp.target.name (sym (whole_is m (2 * length m.items)) t).items)) ∙ q) (enough target) refl ends g f r

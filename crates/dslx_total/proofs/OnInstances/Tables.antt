@@ -1,5 +1,5 @@
 -- Instances that an accepted text reaches stand in the table of its functions.
-use Rattle.std.proofs.Common.{◌≡◌, ◌≤◌, ℕ, List, [], Option, Some, length, sym, ap, subst, ◌∙◌, arith}
+use Rattle.std.proofs.Common.{◌*◌, ◌≡◌, ◌≤◌, ℕ, List, [], Option, Some, length, sym, ap, subst, ◌∙◌, arith}
 use Rattle.dslx_tree.specs.declared.item.Module.{Module}
 use Rattle.dslx_meaning.specs.Environment.{Meanings}
 use Rattle.dslx_meaning.specs.Items.{as_function, item_named, meanings_of}
@@ -18,7 +18,7 @@ pub stands_there : (m : Module) (top : Option (List ℕ)) → (globals_of m).ite
     → (limit : ℕ) → length (instances_of m top) ≤ limit → ExistsInTable m limit i
 stands_there m top denotation have i is limit enough =
     let j : Instance = record { name = i.name; parametric_args = i.parametric_args } in
-    let of : as_function (item_named i.name (globals_of m).whole.items) ≡ Some is.function = ap (λ (x : Module). as_function (item_named i.name x.items)) (whole_is m (length m.items)) ∙ is.is in
+    let of : as_function (item_named i.name (globals_of m).whole.items) ≡ Some is.function = ap (λ (x : Module). as_function (item_named i.name x.items)) (whole_is m (2 * length m.items)) ∙ is.is in
     let own = subst (λ (x : Meanings). AllOwn x.type_named i.parametric_args) (sym denotation) is.own in
     let found = found_among m (meanings_of m) j [] have.instances have.known.table have.lowered (have.reached j is.function of own is.reached) in
     let few = have.few in
@@ -26,9 +26,9 @@ stands_there m top denotation have i is limit enough =
       table = have.known.table;
       is_table = (have.instances, have.lowered);
       few = omega (arith, few, enough);
-      place = found.0;
+      found = found.0;
       has = found.1;
     }
 
 pub never_missing : (m : Module) (limit : ℕ) (i : Instantiated) (before : List CoreInstance) → ExistsInTable m limit i → InNoTable (record { text = m; items = meanings_of m; table = before }) limit i → ⊥
-never_missing m limit i before stands missing = none_some stands.place (sym (missing stands.table stands.is_table stands.few) ∙ stands.has)
+never_missing m limit i before stands missing = none_some stands.found (sym (missing stands.table stands.is_table stands.few) ∙ stands.has)

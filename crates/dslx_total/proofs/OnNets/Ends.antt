@@ -32,8 +32,7 @@ use Rattle.dslx_core.proofs.Lemmas.Typing.Sound.{all_in, none_in, not_broken, pa
 use Rattle.dslx_core.proofs.Lemmas.Typing.Typed.{none_some, not_false, one_of_text, or_false, same_some}
 use Rattle.dslx_core.specs.Typing.Typed.Declared.{IsDeclared}
 use Rattle.dslx_core.specs.Typing.Typed.WellTyped.{IsWellTypedEnv}
-use Rattle.dslx_total.specs.Expressions.Beside.{NamesHaveWidths}
-use Rattle.dslx_total.proofs.OnNets.Full.{NamesAreFull}
+use Rattle.dslx_total.specs.Expressions.Beside.{NamesAreFull, NamesHaveWidths}
 use Rattle.dslx_total.proofs.OnNets.Words.{IsWordType, WordIs, word_is}
 
 -- ---- ends

@@ -44,7 +44,7 @@ use Rattle.dslx_core.specs.Typing.Complete.HasValue.{AreTyped}
 use Rattle.dslx_core.specs.Typing.Typed.Complete.{IsComplete}
 use Rattle.dslx_core.specs.Typing.Typed.Declared.{IsDeclared}
 use Rattle.dslx_core.specs.Typing.Typed.WellTyped.{IsWellTypedEnv, types_at}
-use Rattle.dslx_total.specs.Expressions.Beside.{NamesHaveWidths}
+use Rattle.dslx_total.specs.Expressions.Beside.{NamesAreFull, NamesHaveWidths}
 use Rattle.dslx_total.specs.Families.Plain.{ProcsBindNoConstant}
 use Rattle.dslx_total.proofs.Lemmas.Expressions.{sized_there}
 use Rattle.dslx_total.proofs.OnFamilies.Acts.{PartsWellTyped, parts_well_typed}
@@ -52,7 +52,6 @@ use Rattle.dslx_total.proofs.OnFamilies.Nexts.{Opens, opening_there}
 use Rattle.dslx_total.proofs.OnFamilies.Reached.{K}
 use Rattle.dslx_total.proofs.OnFamilies.There.{IsThere, well}
 use Rattle.dslx_total.proofs.OnNets.Ends.{EachHasWord, GoesThere}
-use Rattle.dslx_total.proofs.OnNets.Full.{NamesAreFull}
 use Rattle.dslx_total.proofs.OnNets.Keeps.{MembersHaveChannels, keeps_types}
 use Rattle.dslx_total.proofs.OnNets.Once.{UsesEnd}
 use Rattle.dslx_total.proofs.OnNets.Placed.{MembersStand, members_have_words}

@@ -41,7 +41,7 @@ use Rattle.dslx_meaning.specs.Rules.Typings.{TypeExprTyping, TypePair}
 use Rattle.dslx_core.proofs.Lemmas.Typing.Sound.{HoldOn, TreeClaims, held, held_tree, holds_type_expr, none_in, none_in_three, some_fault}
 use Rattle.dslx_core.proofs.Lemmas.Typing.Typed.{all_there, list_parts, none_some, rule_holds, same_some, settled_type, type_induction, unbroken_parts}
 use Rattle.dslx_core.proofs.Lemmas.Typing.TypingRelations.{whole_is}
-use Rattle.dslx_total.specs.Expressions.Beside.{NamesHaveWidths, has_widths}
+use Rattle.dslx_total.specs.Expressions.Beside.{NamesAreFull, NamesHaveWidths, has_widths}
 use Rattle.dslx_total.proofs.Lemmas.Expressions.{in_enum}
 use Rattle.dslx_total.proofs.OnWords.Narrow.{bits_are, plain_is}
 use Rattle.dslx_total.proofs.OnExpressions.Joined.{seen, seeing}
@@ -73,11 +73,7 @@ as_many_bits = type_induction AsManyBits
 
 -- ---- types of texts
 
--- what names stand for has bits where it isn't ()
-abbrev pub NamesAreFull : GlobalEnv → Type 0
-NamesAreFull known = (name : List ℕ) (t : DslxType) → known.items.type_named name ≡ Some t → is_unit t ≡ false → 1 ≤ flat_bits t
-
--- so has a written type
+-- a written type has bits where it isn't ()
 abbrev pub IsFull : TypeExprTyping → Type 0
 IsFull j = (context : TypeEnv) → NamesAreFull context.known → (t : DslxType) → (j context).ty ≡ Some t → is_unit t ≡ false → 1 ≤ flat_bits t
 

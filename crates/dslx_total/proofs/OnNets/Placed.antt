@@ -41,14 +41,13 @@ use Rattle.dslx_core.specs.Typing.Typed.Complete.{IsComplete}
 use Rattle.dslx_core.specs.Typing.Typed.Declared.{IsDeclared}
 use Rattle.dslx_core.specs.Typing.Typed.WellTyped.{IsWellTypedEnv}
 use Rattle.dslx_core.specs.Typing.TypingRelations.Closed.{ends_within}
-use Rattle.dslx_total.specs.Expressions.Beside.{NamesHaveWidths}
+use Rattle.dslx_total.specs.Expressions.Beside.{NamesAreFull, NamesHaveWidths}
 use Rattle.dslx_total.specs.Families.Plain.{ProcsBindNoConstant}
 use Rattle.dslx_total.proofs.OnFamilies.Acts.{parts_well_typed}
 use Rattle.dslx_total.proofs.OnFamilies.Reached.{K, Listed, Passing, Within, all, all_sound, ends_none, most, proc_there, reaching}
 use Rattle.dslx_total.proofs.OnFamilies.Spawns.{proc_named, spawn_there, well_behind}
 use Rattle.dslx_total.proofs.OnFamilies.There.{IsThere, well}
 use Rattle.dslx_total.proofs.OnNets.Ends.{EachHasWord, EndStands, EndsStand, GoesThere, each_has_word, first_stands, given_ends_stand, made_stands, members_stand, none_stand}
-use Rattle.dslx_total.proofs.OnNets.Full.{NamesAreFull}
 use Rattle.dslx_total.proofs.OnNets.Words.{IsWordType, word_is}
 
 -- these are channels of the list, the first one at this number
@@ -158,7 +157,7 @@ module _ (m : Module) (top : Option (List ℕ)) (s : IsAccepted m top) (procs : 
       let bound = parametric_names p.parametrics in
       let f = (none_in outer.faults (made.faults ++ _) parts.config).0 in
       let r = (all_in test outer.reached (made.reached ++ []) parts.listed).0 in
-      let named = found_ends (Passing m top s) context [] p.config.ends bound (reaching m top s (ends_mentions p.config.ends bound) (ends_none p.config.ends bound) (proc_there m top s p here.checked.named).ends) in
+      let named = found_ends (Passing m top s) context [] p.config.ends bound (reaching m top s context.owner (ends_mentions p.config.ends bound) (ends_none p.config.ends bound) (proc_there m top s p here.checked.named).ends) in
       each_has_word context (item_env known (parametric_args_bound [] p.parametrics parametric_args)) (well m top s complete typed p parametric_args here) names full [] p.config.ends f (all_sound m top s outer.reached named r)
 
   -- so have its members
@@ -227,7 +226,7 @@ module _ (m : Module) (top : Option (List ℕ)) (s : IsAccepted m top) (procs : 
         let a = none_in ((sender ++ receiver) ++ strings) (word.faults ++ depth.faults) f in
         let b = none_in_three sender receiver strings a.0 in
         let q = den_parts (ends_within m (most m top s)) m (mentioned_in_type c.word bound) (arg_if c.depth bound) within in
-        let reached = all_sound m top s word.reached (written_type_reaches (Passing m top s) c.word bound behind (reaching m top s (mentioned_in_type c.word bound) (no_proc_in_type c.word bound) q.0)) (all_in test word.reached depth.reached r).0 in
+        let reached = all_sound m top s word.reached (written_type_reaches (Passing m top s) c.word bound behind (reaching m top s behind.owner (mentioned_in_type c.word bound) (no_proc_in_type c.word bound) q.0)) (all_in test word.reached depth.reached r).0 in
         let w = word_is behind env (well_behind context env made sees) names full c.word (none_in word.faults depth.faults a.1).0 reached in
         record { fits = record { word = w.word; ty = ap plain_or_unit w.means; fits = w.fits }; ends = made_stands known chans context env path refl made before c number h w b.0 b.1 at }
 

@@ -32,7 +32,7 @@ use Rattle.dslx_core.proofs.Lemmas.Typing.Typed.{same_some}
 use Rattle.dslx_core.specs.Typing.Activities.Members.{IsWellTypedNext}
 use Rattle.dslx_core.specs.Typing.Complete.HasValue.{AreTyped}
 use Rattle.dslx_core.specs.Typing.Typed.Complete.{IsComplete}
-use Rattle.dslx_total.specs.Expressions.Beside.{NamesHaveWidths}
+use Rattle.dslx_total.specs.Expressions.Beside.{NamesAreFull, NamesHaveWidths}
 use Rattle.dslx_total.specs.Families.Plain.{ProcsBindNoConstant}
 use Rattle.dslx_total.specs.Nets.Slashes.{has_slash}
 use Rattle.dslx_total.proofs.OnFamilies.Acts.{parts_well_typed}
@@ -40,7 +40,6 @@ use Rattle.dslx_total.proofs.OnFamilies.Reached.{K, all}
 use Rattle.dslx_total.proofs.OnFamilies.There.{IsThere}
 use Rattle.dslx_total.proofs.OnFamilies.Tops.{top_there}
 use Rattle.dslx_total.proofs.OnNets.Facts.{ProcFits, SiteFits, each_at, map_there, proc_fits}
-use Rattle.dslx_total.proofs.OnNets.Full.{NamesAreFull}
 use Rattle.dslx_total.proofs.OnNets.Names.{HaveOwnNames, all_named, whole_named}
 use Rattle.dslx_total.proofs.OnNets.Numbered.{FitsButNames}
 use Rattle.dslx_total.proofs.OnNets.Once.{Owned, UsedOnce, UsesEnd, all_once, outer_apart, outer_scope}

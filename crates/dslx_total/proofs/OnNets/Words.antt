@@ -15,9 +15,9 @@ use Rattle.dslx_meaning.specs.Rules.TypeRules.{span_of_type, unit_faults}
 use Rattle.dslx_core.proofs.Lemmas.Typing.Sound.{none_in, not_broken, type_has_den}
 use Rattle.dslx_core.specs.Typing.Typed.Declared.{IsDeclared}
 use Rattle.dslx_core.specs.Typing.Typed.WellTyped.{IsWellTypedEnv, types_at}
-use Rattle.dslx_total.specs.Expressions.Beside.{NamesHaveWidths}
+use Rattle.dslx_total.specs.Expressions.Beside.{NamesAreFull, NamesHaveWidths}
 use Rattle.dslx_total.proofs.OnExpressions.Joined.{type_is_wide}
-use Rattle.dslx_total.proofs.OnNets.Full.{NamesAreFull, as_many_bits, type_is_within, word_has_bits}
+use Rattle.dslx_total.proofs.OnNets.Full.{as_many_bits, type_is_within, word_has_bits}
 use Rattle.dslx_total.proofs.OnNets.Plain.{narrow_leaves}
 use Rattle.dslx_total.proofs.OnWords.Narrow.{are_narrow}
 use Rattle.dslx_total.proofs.OnWords.Ends.{within_limit}

@@ -1,5 +1,5 @@
 -- Instances of functions by how long the chains of items are that begin with them: each reaches those with shorter chains alone.
-use Rattle.std.proofs.Common.{◌≡◌, ◌≤◌, ◌&&◌, ◌++◌, ℕ, zero, suc, length, Bool, true, false, not, List, [], Option, Some, None, arith, refl, sym, ap, ◌∙◌}
+use Rattle.std.proofs.Common.{◌*◌, ◌≡◌, ◌≤◌, ◌&&◌, ◌++◌, ℕ, zero, suc, length, Bool, true, false, not, List, [], Option, Some, None, arith, refl, sym, ap, ◌∙◌}
 use mathlib.Core.Bool.{true≢false}
 use Rattle.std.specs.List.{list_all}
 use Rattle.std.proofs.lemmas.List.{length-append}
@@ -49,7 +49,7 @@ module _ (m : Module) (top : Option (List ℕ)) (s : IsAccepted m top) where
   -- ---- what stands in it
 
   known_item : (name : List ℕ) → item_named name K.whole.items ≡ item_named name m.items
-  known_item name = λ i. item_named name (whole_is m (length m.items) i).items
+  known_item name = λ i. item_named name (whole_is m (2 * length m.items) i).items
 
   named_function : (i : Instance) (f : Function) → as_function (item_named i.name K.whole.items) ≡ Some f → item_named i.name m.items ≡ Some (d.Function f)
   named_function i f e = function_is (item_named i.name m.items) f (ap as_function (sym (known_item i.name)) ∙ e)
@@ -93,7 +93,7 @@ module _ (m : Module) (top : Option (List ℕ)) (s : IsAccepted m top) where
       let f = function_there i c.0 in
       let seen : found_of_instance K i ≡ (function_seen K f.0 i.parametric_args).found = ap (found_of_item K i.parametric_args) (known_item i.name ∙ f.1) in
       let mentions = (passes_next m k i.name b.0).0 in
-      let named = instances_reach (passes m k) m (passes_closed m k) (length m.items) i mentions in
+      let named = instances_reach (passes m k) m (passes_closed m k) (2 * length m.items) i mentions in
       let shorter : k ≤ length m.items = omega (arith, l) in
       record {
         function = f.0;

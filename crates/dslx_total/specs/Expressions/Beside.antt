@@ -1,8 +1,9 @@
 -- The scope where something is lowered, which matches the type environment where it is typed.
-use Rattle.std.specs.Prelude.{◌≡◌, ℕ, nat_lt, List, [], ◌∷◌, map, Bool, true, Option, Some}
+use Rattle.std.specs.Prelude.{◌≡◌, ◌≤◌, ℕ, nat_lt, List, [], ◌∷◌, map, Bool, false, true, Option, Some}
 use Rattle.std.specs.List.{list_all}
 use Rattle.dslx_tree.specs.declared.item.Function.{Function}
 use Rattle.dslx_meaning.specs.Items.{all_parametric_args, as_function, inferred_from, item_named}
+use Rattle.dslx_meaning.specs.Types.{flat_bits, is_unit}
 use Rattle.dslx_meaning.specs.Values.{type_of_value}
 use Rattle.dslx_meaning.specs.declared.ty.DslxType.{DslxType, fold-DslxType}
 use Rattle.dslx_meaning.specs.declared.ty.DslxType.TheOpen.{DslxType-F}
@@ -53,6 +54,10 @@ has_widths = fold-DslxType Bool has_widths_step
 -- so it is in what a name stands for, as in all that a text writes
 abbrev pub NamesHaveWidths : GlobalEnv → Type 0
 NamesHaveWidths known = (name : List ℕ) (t : DslxType) → known.items.type_named name ≡ Some t → has_widths t ≡ true
+
+-- what names stand for has bits where it isn't ()
+abbrev pub NamesAreFull : GlobalEnv → Type 0
+NamesAreFull known = (name : List ℕ) (t : DslxType) → known.items.type_named name ≡ Some t → is_unit t ≡ false → 1 ≤ flat_bits t
 
 -- a constant is of a type of the text
 abbrev pub ConstantsAreDeclared : GlobalEnv → Type 0

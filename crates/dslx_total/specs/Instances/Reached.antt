@@ -20,5 +20,5 @@ pub record ExistsInTable (m : Module) (limit : ℕ) (i : Instantiated) : Type 0 
   pub table : List CoreInstance
   pub is_table : IsTable m (meanings_of m) table
   pub few : length table ≤ limit
-  pub place : ℕ × CoreInstance
-  pub has : instance_in i.name i.parametric_args 0 table ≡ Some place
+  pub found : ℕ × CoreInstance
+  pub has : instance_in i.name i.parametric_args 0 table ≡ Some found

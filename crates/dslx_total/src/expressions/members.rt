@@ -10,7 +10,7 @@ ghost use Rattle.dslx_meaning.specs.Rules.ProcRules.{ends_found, channel_end_of}
 ghost use Rattle.dslx_tree.specs.declared.process.End.{End};
 ghost use Rattle.dslx_core.specs.Typing.Typed.WellTyped.{IsWellTypedEnv};
 
-/// Well-typed ends, in whose words all bits are 1 to 128 wide: where they are the members in scope, each
+/// Well-typed ends, each of whose words a word of 1 to 128 bits holds: where they are the members in scope, each
 /// member is an end whose words a channel holds.
 pub fn members_stand()
     ensures { (here : Instance → Bool) (context : TypeEnv) (env : Env) (outer : CoreScope) (ends : List End) → IsWellTypedEnv context env → ScopeMatchesEnv here context outer → EachHasWords context ends

@@ -1,7 +1,8 @@
 -- What is known of items where the same is known of those that they mention. This module is for other crates' proofs; nothing else of
 -- this folder is.
-pub use Rattle.dslx_core.proofs.OnTyping.OnDepends.OfItems.{FunctionParts, Stage, agreeing, alias_at, inner_at, type_at, den_parts, call_at, constant_item_at, enum_at, function_at, function_parts, named_member_at, plain_alike, sound_at, struct_at, sees, sees_where, reached_in}
-pub use Rattle.dslx_core.proofs.OnTyping.OnDepends.Stages.{every_item_passes, instances_settle, globals_over_alike, call_unknown, constant_unknown, is_proc_item, member_unknown, named_again, own_again, own_mentions, no_enum, no_function, passes, pattern_use, passes_closed, passes_next, stage, struct_unknown, type_unknown, unused_alike, names_no_procs, parametrics_none, uses_over, uses_settle, and_both, not_true}
+pub use Rattle.dslx_core.proofs.OnTyping.OnDepends.OfItems.{FunctionParts, Sight, Stage, agreeing, alias_at, inner_at, type_at, den_parts, call_at, constant_item_at, enum_at, function_at, function_parts, named_member_at, plain_alike, sound_at, struct_at, mentions_pass, stage_sight, sees_where, reached_in}
+pub use Rattle.dslx_core.proofs.OnTyping.OnDepends.Stages.{every_item_passes, globals_over_alike, call_unknown, call_unless, constant_unknown, is_proc_item, member_unknown, named_again, own_again, own_mentions, no_enum, no_function, passes, pattern_use, passes_closed, passes_next, stage, struct_unknown, type_unknown, unused_alike, names_no_procs, parametrics_none, uses_over, and_both, not_true}
+pub use Rattle.dslx_core.proofs.OnTyping.OnDepends.Levels.{instances_settle, uses_settle}
 pub use Rattle.dslx_core.proofs.OnTyping.OnDepends.Same.{all_alike, constant_same, inner_same}
 pub use Rattle.dslx_core.proofs.OnTyping.OnDepends.Scopes.{constant_alike}
 pub use Rattle.dslx_core.proofs.OnTyping.OnDepends.Joined.{expression_alike, written_type_alike}

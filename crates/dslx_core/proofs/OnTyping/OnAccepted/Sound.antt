@@ -1,5 +1,5 @@
 -- Items and instances of a text without faults: all that they reach is sound, by induction on chains of items.
-use Rattle.std.proofs.Common.{◌≡◌, ◌≤◌, inl, inr, ◌&&◌, ◌||◌, ◌++◌, ℕ, zero, suc, length, Bool, true, false, if◌then◌else◌, List, [], ◌∷◌, Option, Some, arith, refl, sym, ap, subst, ◌∙◌}
+use Rattle.std.proofs.Common.{◌*◌, ◌≡◌, ◌≤◌, inl, inr, ◌&&◌, ◌||◌, ◌++◌, ℕ, zero, suc, length, Bool, true, false, if◌then◌else◌, List, [], ◌∷◌, Option, Some, arith, refl, sym, ap, subst, ◌∙◌}
 use mathlib.Core.Bool.{true≢false}
 use Rattle.std.specs.Str.{bytes_eq}
 use Rattle.std.specs.List.{list_all}
@@ -47,7 +47,7 @@ one_of_these i (x ∷ xs) e = by_first (same_instance i x) refl e (one_of_these 
 
 -- ---- what an item comes to is among what all come to
 
-item_faults : (known : GlobalEnv) (name : List ℕ) (x : Definition) (is : List Item) → item_named name is ≡ Some x → (items_found known is).faults ≡ [] → (item_found known x).faults ≡ []
+pub item_faults : (known : GlobalEnv) (name : List ℕ) (x : Definition) (is : List Item) → item_named name is ≡ Some x → (items_found known is).faults ≡ [] → (item_found known x).faults ≡ []
 item_faults known name x [] q e = none_some x q
 item_faults known name x (i ∷ is) q e =
     let parts = both_empty (item_found known i.definition).faults (items_found known is).faults e in
@@ -105,10 +105,9 @@ module _ (m : Module) (top : Option (List ℕ)) (s : IsAccepted m top) where
   sound zero l i one p = absurd (true≢false (sym p))
   sound (suc k) l i one p =
       let mentions = (passes_next m k i.name p).0 in
-      let named = instances_reach (passes m k) m (passes_closed m k) (length m.items) i mentions in
+      let named = instances_reach (passes m k) m (passes_closed m k) (2 * length m.items) i mentions in
       let reached = all_so K.is_sound (passes m k) (found_of_instance K i).reached named (λ j r q. sound k (omega (arith, l)) j (one_of_these j instances (s.among i j one r)) q) in
-      let longer : length m.items ≤ suc (length m.items) = omega arith in
-      let settled = (stage m s.plain (suc k) (length m.items) (suc (length m.items)) l (omega (arith, l, longer))).known.sound i p in
+      let settled = (stage m s.plain (suc k) (2 * length m.items) (suc (2 * length m.items)) (omega (arith, l)) (omega (arith, l))).known.sound i p in
       settled ∙ (λ t. is_empty (instance_faults K i instances one all_empty.1 t) && reached t)
 
   pub outside : (i : Instance) → IsOneOf i (outside_instances m top).reached → IsOneOf i instances
@@ -122,7 +121,7 @@ module _ (m : Module) (top : Option (List ℕ)) (s : IsAccepted m top) where
       let mentions = (λ t. list_all P (mentions_of m (sym e t))) ∙ closed name (every_item_passes m s.free name x e other) in
       record {
         faults = item_faults K name x m.items e items_empty;
-        reached = all_so K.is_sound P (item_found K x).reached (items_reach P m closed (length m.items) x mentions)
+        reached = all_so K.is_sound P (item_found K x).reached (items_reach P m closed (2 * length m.items) x mentions)
             (λ j h p. sound (length m.items) (omega arith) j (outside j (in_first j (items_found K m.items).reached (top_found K (top_proc m top)).reached (item_reached K name x j m.items e h))) p);
       }
 

@@ -1,5 +1,5 @@
 -- What is known of the items of a text, where nothing is wrong with them: meanings that are those over themselves.
-use Rattle.std.proofs.Common.{◌≡◌, ℕ, Bool, true, false, if◌then◌else◌, List, [], ◌∷◌, map, Option, Some, None, refl, sym, ◌∙◌}
+use Rattle.std.proofs.Common.{◌≡◌, ℕ, Bool, true, false, if◌then◌else◌, List, [], ◌∷◌, map, Option, Some, None, refl, sym, ap, ◌∙◌}
 use mathlib.Core.Bool.{true≢false}
 use Rattle.std.proofs.Math.Path.{fun_ext}
 use Rattle.std.specs.Str.{bytes_eq}
@@ -16,11 +16,12 @@ use Rattle.dslx_meaning.specs.Lists.{and_then, is_in}
 use Rattle.dslx_meaning.specs.declared.value.DslxValue.{DslxValue}
 use Rattle.dslx_meaning.specs.Rules.ItemRules.{alias_seen, constant_seen, enum_member_value, enum_seen, struct_seen}
 use Rattle.dslx_meaning.specs.Rules.TypeEnvs.{GlobalEnv}
-use Rattle.dslx_meaning.specs.Rules.Mentions.{Use, AsValue, AsType, AsFunction, AsEnum, AsStruct}
+use Rattle.dslx_meaning.specs.Rules.Mentions.{Use, AsValue, AsType, AsFunction, AsEnum, AsStruct, item_reaches}
 use Rattle.dslx_meaning.specs.Rules.ModuleRules.{item_found, globals_over, type_known}
 use Rattle.dslx_meaning.specs.Rules.NameRules.{has_member}
 use Rattle.dslx_core.specs.Typing.Complete.HasValue.{AliasHasType, ConstantHasValue, EnumHasType, IsWellTypedFound, StructHasType}
 use Rattle.dslx_core.specs.Typing.Depends.Alike.{UseAlike}
+use Rattle.dslx_core.proofs.Lemmas.Typing.Depends.{call_unless}
 
 -- what is known of items with whose text nothing is wrong
 pub record HasValue (known : GlobalEnv) : Type 0 where
@@ -33,6 +34,7 @@ pub record HasValue (known : GlobalEnv) : Type 0 where
 pub record IsSettled (m : Module) (known : GlobalEnv) : Type 0 where
   pub text : known.whole ≡ m
   pub kinds : (name : List ℕ) → known.items.is_constant name ≡ is_constant_item (item_named name known.whole.items)
+  pub ends : (name : List ℕ) → item_reaches m name name ≡ false
   pub uses : (u : Use) (name : List ℕ) → UseAlike known (globals_over known) u name
   pub well_typed : (name : List ℕ) (x : Definition) → item_named name m.items ≡ Some x → IsWellTypedFound known (item_found known x)
   pub stand : HasValue known
@@ -108,7 +110,9 @@ module _ (m : Module) (known : GlobalEnv) (s : IsSettled m known) where
   call_itself : (name : List ℕ) (given operands : List DslxValue) → (meanings_over m known.items).call name given operands ≡ known.items.call name given operands
   call_itself name given operands =
       let next = (s.uses AsFunction name).call given operands in
-      sym (next ∙ at_item name (λ o. and_then (as_function o) (λ f. call_of known.items f given operands)))
+      let loops = (λ i. item_reaches (s.text i) name name) ∙ s.ends name in
+      sym (next ∙ ap (λ b. call_unless b (and_then (as_function (item_named name known.whole.items)) (λ f. call_of known.items f given operands))) loops
+      ∙ at_item name (λ o. and_then (as_function o) (λ f. call_of known.items f given operands)))
 
   -- what is known of the items, over what is known of them
   pub over_itself : meanings_over m known.items ≡ known.items

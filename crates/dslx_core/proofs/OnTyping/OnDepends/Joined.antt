@@ -7,12 +7,10 @@ use Rattle.dslx_tree.specs.declared.block.Stmt.{Stmt}
 use Rattle.dslx_tree.specs.declared.block.Stmt.TheOpen.{Stmt-F, Node-F, Shape-F, TypeNode-F}
 use Rattle.dslx_tree.specs.declared.expr.Expr.{Expr}
 use Rattle.dslx_tree.specs.declared.ident.Ident.{Ident}
-use Rattle.dslx_tree.specs.declared.item.Function.{Function}
 use Rattle.dslx_tree.specs.declared.type_expr.TypeExpr.{TypeExpr}
 use Rattle.dslx_tree.proofs.Lemmas.Folds.Levels.{Carriers, StmtLevel, NodeLevel, ShapeLevel, TypeNodeLevel, BlockLevel, LetLevel, ArmLevel, FieldValueLevel, ForLevel, NumberLevel, map_stmt, map_node, map_shape, map_type_node, map_block, map_bind, map_arm, map_field, map_loop, map_number}
 use Rattle.dslx_tree.proofs.Lemmas.Folds.Related.{both, firsts, seconds, KeepRelated, related_expr, related_block, related_type_expr}
 use Rattle.dslx_meaning.specs.Callees.{CallKind, Calls, kind_of_call, is_text_function}
-use Rattle.dslx_meaning.specs.Items.{as_function, item_named}
 use Rattle.dslx_meaning.specs.Lists.{all_some, and_then, with_both}
 use Rattle.dslx_meaning.specs.Meaning.{fitted}
 use Rattle.dslx_meaning.specs.declared.ty.DslxType.{DslxType}
@@ -29,7 +27,7 @@ use Rattle.dslx_meaning.specs.Rules.NodeRules.{block_pair, expr_pair, second_of,
 use Rattle.dslx_meaning.specs.Rules.OperatorRules.{binary_typing, bound_number, cast_typing, part_typing, prefix_typing, slice_faults}
 use Rattle.dslx_meaning.specs.Rules.PatternRules.{is_there, one_value, part_types, tuple_pattern}
 use Rattle.dslx_meaning.specs.Rules.TypeRules.{array_of, counted_type}
-use Rattle.dslx_core.specs.Typing.Depends.Alike.{FunctionAlike, NamesAlike, SeesAlike, in_globals}
+use Rattle.dslx_core.specs.Typing.Depends.Alike.{CalleeAlikeFrom, NamesAlike, SeesAlike, in_globals}
 use Rattle.dslx_core.proofs.OnTyping.OnDepends.Links.{Claims, claimed, typing, expr_typing, mentions, mention_steps, seen_stmt, seen_node, seen_shape, seen_type_node, seen_block, seen_bind, seen_arg, seen_arm, seen_expr, seen_field, seen_loop, seen_number, seen_pattern, seen_type_expr, mentioned_stmt, mentioned_node, mentioned_shape, mentioned_type_node, mentioned_block, mentioned_bind, mentioned_arg, mentioned_arm, mentioned_expr, mentioned_field, mentioned_loop, mentioned_number, mentioned_pattern, mentioned_type_expr}
 use Rattle.dslx_core.proofs.OnTyping.OnDepends.OfCalls.{EachGivenSame, IfCalled, call_same}
 use Rattle.dslx_core.proofs.OnTyping.OnDepends.OfControl.{ArmSame, EachArmSame, EachPatternSame, PatternSame, arm_same, behind_in_globals, let_same, loop_behind, loop_same, match_same, name_pattern_same, parts_same}
@@ -184,8 +182,8 @@ module _ (P : List ℕ → Bool) where
       (exprs_alike bound context other es (two bound context other (own ++ given) operands h)) (by_kind kind (one bound context other own given first))
     where
       by_kind : (kind : CallKind) → Sees bound context other (if is_text_function kind then mention AsFunction name.name else [])
-          → IfCalled kind ((f : Function) → as_function (item_named name.name context.known.whole.items) ≡ Some f → FunctionAlike context.known other f)
-      by_kind Calls g = g.alike.0.function
+          → IfCalled kind (CalleeAlikeFrom context.known other context.owner name.name)
+      by_kind Calls g = g.alike.0
       by_kind _ g = tt
 
   struct_alike : (span : Span) (name : Ident) (fields : List FieldPart) (rest : Option ExprPair) (ms : Mentions) → ((bound : List (List ℕ)) (context : TypeEnv) (other : GlobalEnv) → Sees bound context other (ms bound) → OthersSame context other rest)
@@ -214,7 +212,7 @@ module _ (P : List ℕ → Bool) where
       let rest = all_mentions (map (λ (p : ExprPart). p.1) es) bound in
       array_same span context other (t.0.1 context) (t.0.1 (in_globals context other)) (map (λ (p : ExprPart). p.0) es) dots (t.2.2 bound context other (one bound context other (t.1 bound) rest h))
       (exprs_alike bound context other es (two bound context other (t.1 bound) rest h))
-  node_alike (Node-F.Node::Name name) span bound on_top context other h = name_same P span context other name h.known (value_alike context.known other bound name h.hidden h.alike)
+  node_alike (Node-F.Node::Name name) span bound on_top context other h = name_same P span context other name h.known (value_alike context.known other context.owner bound name h.hidden h.alike)
   node_alike (Node-F.Node::Member e a) span bound on_top context other h = ap (limited span) (member_same P context other e a h.known h.alike.0)
   node_alike (Node-F.Call f parametric_args es) span bound on_top context other h = call_alike (kind_of_call f.name) span f parametric_args es bound on_top context other h
   node_alike (Node-F.Node::Tuple es) span bound on_top context other h = tuple_same span context other (map (λ (p : ExprPart). p.0) es) (exprs_alike bound context other es h)
@@ -484,7 +482,7 @@ module _ (P : List ℕ → Bool) where
           → Sees bound context other (mention_steps.field (map_field Parts mentions (seconds typing mentions (claimed (alike P))) (record { name = x.name; value = o })) bound)
           → FieldSame context other (expr_typing.field (map_field Parts typing (firsts typing mentions (claimed (alike P))) (record { name = x.name; value = o }))).1
       by_value None bound context other h struct =
-          ap (field_by_name x.name (field_type struct x.name.name)) (name_same P x.name.span context other x.name.name h.known (value_alike context.known other bound x.name.name h.hidden h.alike))
+          ap (field_by_name x.name (field_type struct x.name.name)) (name_same P x.name.span context other x.name.name h.known (value_alike context.known other context.owner bound x.name.name h.hidden h.alike))
       by_value (Some e) bound context other h struct = λ i. field_typing context struct (record { name = x.name; value = Some (frozen e.0 (e.2.2 bound false context other h i)) })
 
   -- ---- the whole

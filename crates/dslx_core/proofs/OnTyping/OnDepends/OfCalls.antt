@@ -1,5 +1,5 @@
 -- Calls by what is known in two ways.
-use Rattle.std.proofs.Common.{◌≡◌, ◌++◌, ℕ, Bool, true, false, if◌then◌else◌, List, [], ◌∷◌, map, Option, Some, None, refl, ap, ◌∙◌}
+use Rattle.std.proofs.Common.{◌≡◌, ◌++◌, ℕ, Bool, true, false, if◌then◌else◌, List, [], ◌∷◌, map, Option, Some, None, refl, ap, ◌∙◌, ◌||◌, sym, subst}
 use Rattle.xb_span.specs.declared.fault.Fault.{Fault}
 use Rattle.xb_span.specs.declared.span.Span.{Span}
 use Rattle.dslx_tree.specs.declared.expr.Expr.{Expr, out-Expr}
@@ -16,12 +16,13 @@ use Rattle.dslx_meaning.specs.declared.ty.DslxType as ty
 use Rattle.dslx_meaning.specs.declared.value.DslxValue.{DslxValue}
 use Rattle.dslx_meaning.specs.Rules.AggregateRules.{wanted_faults, when_all}
 use Rattle.dslx_meaning.specs.Rules.CallRules as c
-use Rattle.dslx_meaning.specs.Rules.CallRules.{Before, parametric_type, ParametricArgument, NotGiven, ParametricArgsSeen, Resolved, Unknown, and_parametric, and_there, builtin_typing, call_typing, call_parametric_args, call_parts_faults, call_parts_reached, callee_size, channel_seen, default_value, function_call, given_parametric_args, has_right_count, inferred_by, is_refused, typing_there, known_before, maybe_inferred, not_given, nothing_there, number_before, parametric_args_for, parametric_args_seen, of_type, operand_faults, reached_by, resolved_value, right_call, token_typing, type_there, without_default, without_parametric_args, wrong_call}
+use Rattle.dslx_meaning.specs.Rules.CallRules.{Before, parametric_type, ParametricArgument, NotGiven, ParametricArgsSeen, Resolved, Unknown, and_parametric, and_there, builtin_typing, call_typing, call_parametric_args, call_parts_faults, call_parts_reached, callee_size, channel_seen, default_value, function_call, given_parametric_args, has_right_count, inferred_by, is_refused, typing_there, known_before, maybe_inferred, not_given, nothing_there, number_before, parametric_args_for, parametric_args_seen, of_type, operand_faults, reached_by, resolved_value, right_call, token_typing, type_there, without_default, without_parametric_args, wrong_call, JudgedThere, call_type, default_there, is_wrong_parametric, value_before}
 use Rattle.dslx_meaning.specs.Rules.ConstantRules.{constant_of}
 use Rattle.dslx_meaning.specs.Rules.TypeRules.{unless_unit}
-use Rattle.dslx_meaning.specs.Rules.TypeEnvs.{ExprPair, Judgement, GlobalEnv, TypeEnv, all_alone, breaks_if, faults_of_all, name_of_expr, one_and, plus_size, reached_of_all, settled, size_of_all, span_of, types_of}
+use Rattle.dslx_meaning.specs.Rules.TypeEnvs.{ExprPair, Judgement, GlobalEnv, TypeEnv, all_alone, breaks_if, faults_of_all, name_of_expr, one_and, plus_size, reached_of_all, settled, size_of_all, span_of, types_of, Instance, Signature, breaks, has_broken, limited, size_if_typed, unless_broken}
 use Rattle.dslx_meaning.specs.Rules.Typings.{ArgPair}
-use Rattle.dslx_core.specs.Typing.Depends.Alike.{DeclaredAlike, FunctionAlike, GlobalsAgree, in_globals}
+use Rattle.dslx_core.specs.Typing.Depends.Alike.{DeclaredAlike, FunctionAlike, GlobalsAgree, in_globals, CalleeAlikeFrom, TypesAlike}
+use Rattle.dslx_core.proofs.OnTyping.OnTyped.TypingRelations.{broken_first, broken_there}
 use Rattle.dslx_core.proofs.OnTyping.OnDepends.Same.{EachSame, PartSame, all_alone_same, alone_same, frozen}
 
 -- ---- parametrics
@@ -104,9 +105,99 @@ right_same span context other f given es js cyclic parametric_args h = λ i.
 abbrev cyclic_call : Bool → Span → List Fault
 cyclic_call cyclic span = breaks_if cyclic 3 span
 
+-- ---- calls that rule 3 refuses see types and values alone
+
+-- parametrics of a call, without what is judged of the other declaration
+record ArgsAlike (x y : ParametricArgsSeen) : Type 0 where
+  values : x.values ≡ y.values
+  bound : x.bound ≡ y.bound
+  is_wrong : x.is_wrong ≡ y.is_wrong
+  faults : x.faults ≡ y.faults
+
+default_value_same : (a b : GlobalEnv) (owner : List ℕ) → TypesAlike a b owner → (before : Before) (t : Option DslxType) (o : Option Expr) → (default_value a owner before t o).value ≡ (default_value b owner before t o).value
+default_value_same a b owner h before t None = refl
+default_value_same a b owner h before t (Some e) = by_known before.are_known
+  where
+    by_known : (k : Bool) → (if k then default_there a owner before.values t e else without_default Unknown).value ≡ (if k then default_there b owner before.values t e else without_default Unknown).value
+    by_known true = λ i. resolved_value (of_type t (h.default before.values i))
+    by_known false = refl
+
+value_same : (a b : GlobalEnv) (owner : List ℕ) → TypesAlike a b owner → (before : Before) (p : Parametric) (t : Option DslxType) (maybe : Bool) (ns : List ℕ) → (not_given a owner before p t maybe ns).value ≡ (not_given b owner before p t maybe ns).value
+value_same a b owner h before p t true ns = refl
+value_same a b owner h before p t false [] = default_value_same a b owner h before t p.default
+value_same a b owner h before p t false (n ∷ ns) = refl
+
+one_more : (r : Resolved) (faults : List Fault) (d e : JudgedThere) (x y : ParametricArgsSeen) → ArgsAlike x y → ArgsAlike (number_before r faults d x) (number_before r faults e y)
+one_more r faults d e x y h = record {
+  values = ap (value_before r) h.values;
+  bound = h.bound;
+  is_wrong = ap (λ w. is_wrong_parametric r || w) h.is_wrong;
+  faults = ap (λ fs. faults ++ fs) h.faults;
+}
+
+args_alike : (a b : GlobalEnv) (owner : List ℕ) (inferred : List Inferred) (maybe : List (List ℕ)) (before : Before) (ps : List Parametric) (gs : List ParametricArgument)
+    → TypesAlike a b owner → ArgsAlike (parametric_args_seen a owner inferred maybe before ps gs) (parametric_args_seen b owner inferred maybe before ps gs)
+args_alike a b owner inferred maybe before [] [] h = record { values = refl; bound = refl; is_wrong = refl; faults = refl }
+args_alike a b owner inferred maybe before [] (g ∷ gs) h = record { values = refl; bound = refl; is_wrong = refl; faults = refl }
+args_alike a b owner inferred maybe before (p ∷ ps) (g ∷ gs) h =
+    subst (λ t. ArgsAlike (with_given a owner inferred maybe before ps g gs (parametric_type a owner before)) (with_given b owner inferred maybe before ps g gs t)) (ap unless_unit (h.parameter before.values))
+    (by_type (parametric_type a owner before) (λ r. args_alike a b owner inferred maybe (and_parametric before r) ps gs h))
+  where
+    by_type : (t : Option DslxType) → ((r : Resolved) → ArgsAlike (parametric_args_seen a owner inferred maybe (and_parametric before r) ps gs) (parametric_args_seen b owner inferred maybe (and_parametric before r) ps gs))
+        → ArgsAlike (with_given a owner inferred maybe before ps g gs t) (with_given b owner inferred maybe before ps g gs t)
+    by_type t rest =
+        let r = resolved_value (of_type t g.seen.value) in
+        one_more r (wanted_faults g.span t g.seen.judgement.ty) (type_there a owner before) (type_there b owner before) (parametric_args_seen a owner inferred maybe (and_parametric before r) ps gs) (parametric_args_seen b owner inferred maybe (and_parametric before r) ps gs) (rest r)
+args_alike a b owner inferred maybe before (p ∷ ps) [] h =
+    let x = not_given a owner before p (parametric_type a owner before) (is_in p.name.name maybe) (parametric_args_for p.name.name inferred) in
+    let y = not_given b owner before p (parametric_type b owner before) (is_in p.name.name maybe) (parametric_args_for p.name.name inferred) in
+    let same : x.value ≡ y.value = value_same a b owner h before p (parametric_type a owner before) (is_in p.name.name maybe) (parametric_args_for p.name.name inferred)
+    ∙ ap (λ t. (not_given b owner before p t (is_in p.name.name maybe) (parametric_args_for p.name.name inferred)).value) (ap unless_unit (h.parameter before.values)) in
+    by_value x.value y.value same (and_there (type_there a owner before) x.typing) (and_there (type_there b owner before) y.typing) (λ r. args_alike a b owner inferred maybe (and_parametric before r) ps [] h)
+  where
+    by_value : (v w : Resolved) → v ≡ w → (d e : JudgedThere) → ((r : Resolved) → ArgsAlike (parametric_args_seen a owner inferred maybe (and_parametric before r) ps []) (parametric_args_seen b owner inferred maybe (and_parametric before r) ps []))
+        → ArgsAlike (number_before v [] d (parametric_args_seen a owner inferred maybe (and_parametric before v) ps [])) (number_before w [] e (parametric_args_seen b owner inferred maybe (and_parametric before w) ps []))
+    by_value v w q d e rest =
+        subst (λ z. ArgsAlike (number_before v [] d (parametric_args_seen a owner inferred maybe (and_parametric before v) ps [])) (number_before z [] e (parametric_args_seen b owner inferred maybe (and_parametric before z) ps []))) q
+        (one_more v [] d e (parametric_args_seen a owner inferred maybe (and_parametric before v) ps []) (parametric_args_seen b owner inferred maybe (and_parametric before v) ps []) (rest v))
+
+-- what breaks a rule has neither type nor size, whatever else would give them
+broken_same : (span : Span) (t u : Option DslxType) (faults : List Fault) (reached : List Instance) (n k : Option ℕ) → has_broken faults ≡ true → settled span t faults reached n ≡ settled span u faults reached k
+broken_same span t u faults reached n k e =
+    ap (λ own. limited span (record { ty = own; faults = faults; reached = reached; size = size_if_typed own n })) (none t)
+    ∙ sym (ap (λ own. limited span (record { ty = own; faults = faults; reached = reached; size = size_if_typed own k })) (none u))
+  where
+    none : (t : Option DslxType) → unless_broken faults t ≡ None
+    none t = λ i. if e i then None else t
+
+-- what a call that breaks rule 3 breaks
+abbrev refused_faults : Span → List ParametricArgument → List ExprPair → List Judgement → List Fault → Bool → Signature → List Fault
+refused_faults span given es js faults wrong signature =
+    ((((call_parts_faults given js ++ breaks 3 span ∷ []) ++ faults) ++ []) ++ breaks_if wrong 10 span) ++ (if wrong then [] else operand_faults signature.arguments es js)
+
+refused_broken : (span : Span) (given : List ParametricArgument) (es : List ExprPair) (js : List Judgement) (faults : List Fault) (wrong : Bool) (signature : Signature) → has_broken (refused_faults span given es js faults wrong signature) ≡ true
+refused_broken span given es js faults wrong signature =
+    let parts = call_parts_faults given js ++ breaks 3 span ∷ [] in
+    let operands = if◌then◌else◌ {A = List Fault} wrong [] (operand_faults signature.arguments es js) in
+    broken_first (((parts ++ faults) ++ []) ++ breaks_if wrong 10 span) operands (broken_first ((parts ++ faults) ++ []) (breaks_if wrong 10 span)
+    (broken_first (parts ++ faults) [] (broken_first parts faults (broken_there (call_parts_faults given js) [] 3 span))))
+
+refused_same : (span : Span) (context : TypeEnv) (other : GlobalEnv) (f : Function) (given : List ParametricArgument) (es : List ExprPair) (js : List Judgement) (x y : ParametricArgsSeen) → TypesAlike context.known other f.name.name → ArgsAlike x y
+    → right_call span context f given es js (breaks 3 span ∷ []) x ≡ right_call span (in_globals context other) f given es js (breaks 3 span ∷ []) y
+refused_same span context other f given es js x y h k =
+    let known = context.known in
+    let owner = f.name.name in
+    let reached = (call_parts_reached given js ++ []) ++ [] in
+    let signature : known.signature_in owner x.bound.values ≡ other.signature_in owner y.bound.values = h.signature x.bound.values ∙ ap (λ (b : Before). other.signature_in owner b.values) k.bound in
+    broken_same span (call_type known f x js) None (refused_faults span given es js x.faults x.is_wrong (known.signature_in owner x.bound.values)) reached (one_and (plus_size (size_of_all js) (callee_size known owner x.values))) None
+    (refused_broken span given es js x.faults x.is_wrong (known.signature_in owner x.bound.values))
+    ∙ (λ i. settled span None (refused_faults span given es js (k.faults i) (k.is_wrong i) (signature i)) reached None)
+    ∙ broken_same span None (call_type other f y js) (refused_faults span given es js y.faults y.is_wrong (other.signature_in owner y.bound.values)) reached None (one_and (plus_size (size_of_all js) (callee_size other owner y.values)))
+    (refused_broken span given es js y.faults y.is_wrong (other.signature_in owner y.bound.values))
+
 -- a call of a function, with what its parts come to
 function_same : (P : List ℕ → Bool) (span : Span) (context : TypeEnv) (other : GlobalEnv) (name : Ident) (given : List ParametricArgument) (es : List ExprPair) (js : List Judgement) → GlobalsAgree P context.known other
-    → ((f : Function) → as_function (item_named name.name context.known.whole.items) ≡ Some f → FunctionAlike context.known other f)
+    → CalleeAlikeFrom context.known other context.owner name.name
     → function_call span context name given es js (as_function (item_named name.name context.known.whole.items))
     ≡ function_call span (in_globals context other) name given es js (as_function (item_named name.name other.whole.items))
 function_same P span context other name given es js k h =
@@ -122,17 +213,26 @@ function_same P span context other name given es js k h =
     cyclic_same : cyclic context.known ≡ cyclic other
     cyclic_same = ap (λ b. breaks_if b 3 span) (k.cyclic context.owner name.name)
 
-    by_count : (f : Function) → FunctionAlike context.known other f → (b : Bool)
+    by_cycle : (f : Function) → as_function (item_named name.name context.known.whole.items) ≡ Some f → (c : Bool) → context.known.is_cyclic context.owner name.name ≡ c
+        → right_call span context f given es js (breaks_if c 3 span) (seen context.known f) ≡ right_call span (in_globals context other) f given es js (breaks_if c 3 span) (seen other f)
+    by_cycle f q true e =
+        refused_same span context other f given es js (seen context.known f) (seen other f) (h.types f q)
+        (args_alike context.known other f.name.name (inferred_by f.arguments (types_of js)) (maybe_inferred f.arguments (types_of js)) (known_before []) f.parametrics given (h.types f q))
+    by_cycle f q false e =
+        let r = h.function e f q in
+        right_same span context other f given es js [] (seen context.known f) r
+        ∙ (λ i. right_call span (in_globals context other) f given es js [] (parametric_args_same context.known other f.name.name (inferred_by f.arguments (types_of js)) (maybe_inferred f.arguments (types_of js)) (known_before []) f.parametrics given r.declared i))
+
+    by_count : (f : Function) → as_function (item_named name.name context.known.whole.items) ≡ Some f → (b : Bool)
         → (if b then right_call span context f given es js (cyclic context.known) (seen context.known f) else wrong_call span given js (cyclic context.known))
         ≡ (if b then right_call span (in_globals context other) f given es js (cyclic other) (seen other f) else wrong_call span given js (cyclic other))
     by_count f q false = ap (wrong_call span given js) cyclic_same
     by_count f q true =
-        right_same span context other f given es js (cyclic context.known) (seen context.known f) q
-        ∙ (λ i. right_call span (in_globals context other) f given es js (cyclic_same i) (parametric_args_same context.known other f.name.name (inferred_by f.arguments (types_of js)) (maybe_inferred f.arguments (types_of js)) (known_before []) f.parametrics given q.declared i))
+        by_cycle f q (context.known.is_cyclic context.owner name.name) refl ∙ (λ i. right_call span (in_globals context other) f given es js (cyclic_same i) (seen other f))
 
     by_function : (o : Option Function) → as_function (item_named name.name context.known.whole.items) ≡ o → function_call span context name given es js o ≡ function_call span (in_globals context other) name given es js o
     by_function None q = refl
-    by_function (Some f) q = by_count f (h f q) (has_right_count f given es)
+    by_function (Some f) q = by_count f q (has_right_count f given es)
 
 -- ---- parametric arguments
 
@@ -236,7 +336,7 @@ IfCalled Calls X = X
 IfCalled _ X = Unit {0}
 
 pub call_same : (P : List ℕ → Bool) (kind : CallKind) (span : Span) (name : Ident) (as' : List ArgPair) (es : List ExprPair) (on_top : Bool) (context : TypeEnv) (other : GlobalEnv) → GlobalsAgree P context.known other
-    → EachGivenSame context other as' → EachSame context other es → IfCalled kind ((f : Function) → as_function (item_named name.name context.known.whole.items) ≡ Some f → FunctionAlike context.known other f)
+    → EachGivenSame context other as' → EachSame context other es → IfCalled kind (CalleeAlikeFrom context.known other context.owner name.name)
     → call_typing kind span name as' es on_top context ≡ call_typing kind span name as' es on_top (in_globals context other)
 call_same P Calls span name as' es on_top context other k g h f =
     function_same P span context other name (given_parametric_args context as') es (all_alone context es) k f

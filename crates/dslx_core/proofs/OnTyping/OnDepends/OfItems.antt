@@ -46,7 +46,7 @@ use Rattle.dslx_core.specs.Typing.Depends.Alike.{DeclaredAlike, GlobalsAgree, Me
 use Rattle.dslx_core.specs.Typing.Depends.Settled.{AreNoConstants}
 use Rattle.dslx_core.proofs.OnTyping.OnDepends.Parametrics.{declared_alike}
 use Rattle.dslx_core.proofs.OnTyping.OnDepends.Joined.{block_of_text_alike, expression_alike, written_type_alike}
-use Rattle.dslx_core.proofs.OnTyping.OnDepends.Scopes.{constant_alike, mentions_agree, names_join}
+use Rattle.dslx_core.proofs.OnTyping.OnDepends.Scopes.{constant_alike, mentions_agree, names_join, seen_from}
 use Rattle.dslx_core.proofs.OnTyping.OnDepends.Same.{all_alike, constant_same, inner_same, limited_by}
 
 -- what is known in two ways of items whose names pass a test: the same, and it reaches such items alone
@@ -54,8 +54,16 @@ pub record Stage (P : List ℕ → Bool) (m : Module) (a b : GlobalEnv) : Type 0
   pub text : a.whole ≡ m
   pub known : GlobalsAgree P a b
   pub uses : (u : Use) (name : List ℕ) → (is_of_use u (item_named name m.items) ≡ true → P name ≡ true) → UseAlike a b u name
-  pub reach : (ms : List Mention) → list_all P (names_mentioned m ms) ≡ true → MentionsReach P a ms
+  pub reach : (owner : List ℕ) (ms : List Mention) → list_all P (names_mentioned m ms) ≡ true → MentionsReach P a owner ms
   pub reached : (i : Instance) → list_all P (mentions_of m (item_named i.name m.items)) ≡ true → AllNamed P (found_of_instance a i).reached
+
+-- what parts of the texts of items see alike in two ways. Of the first test is what they reach; the items in whose texts they stand
+-- pass the second one, and all that they mention the third one, which may ask how it stands to the item that mentions it
+pub record Sight (P Q : List ℕ → Bool) (T : List ℕ → List ℕ → Bool) (m : Module) (a b : GlobalEnv) : Type 0 where
+  pub text : a.whole ≡ m
+  pub known : GlobalsAgree P a b
+  pub plain : (name : List ℕ) → is_constant_item (item_named name m.items) ≡ false → a.items.constant name ≡ b.items.constant name
+  pub sees : (owner : List ℕ) → Q owner ≡ true → (bound : List (List ℕ)) → NamesAlike a b bound → (ms : List Mention) → list_all (T owner) (names_mentioned m ms) ≡ true → SeesAlike P bound owner a b ms
 
 and_both : (p q : Bool) → (p && q) ≡ true → (p ≡ true) × (q ≡ true)
 and_both true q e = (refl, e)
@@ -133,51 +141,119 @@ abbrev member_by : TypeEnv → Option DslxType → ExprPair → Option UntypedLi
 member_by context base pair None = of_base base (constant_of context pair) (wanted_faults (span_of pair) base (constant_of context pair).judgement.ty)
 member_by context base pair (Some number) = record { found = only_faults (range_faults (span_of pair) base number); value = number_in base number }
 
+-- ---- what functions mention, by a test of each mention
+
+module _ (T : List ℕ → List ℕ → Bool) (m : Module) where
+  abbrev Mentioned : List ℕ → List Mention → Type 0
+  Mentioned owner ms = list_all (T owner) (names_mentioned m ms) ≡ true
+
+  -- parametrics that are left behind these names, and what they mention
+  pub record LeftAlike (a b : GlobalEnv) (owner : List ℕ) (bound : List (List ℕ)) (left : List Parametric) : Type 0 where
+    pub plain : NamesAlike a b bound
+    pub others : NamesAlike a b (parametric_names left)
+    pub mentions : Mentioned owner (parametrics_mentions left bound)
+
+  pub left_next : (a b : GlobalEnv) (owner : List ℕ) (bound : List (List ℕ)) (p : Parametric) (ps : List Parametric) → LeftAlike a b owner bound (p ∷ ps) → LeftAlike a b owner (p.name.name ∷ bound) ps
+  left_next a b owner bound p ps h = record {
+    plain = (h.others.0, h.plain);
+    others = h.others.1;
+    mentions = (den_parts (T owner) m (mentioned_in_type p.ty bound ++ expr_if p.default bound) (parametrics_mentions ps (p.name.name ∷ bound)) h.mentions).1;
+  }
+
+  -- the first one's type and default
+  pub first_den : (a b : GlobalEnv) (owner : List ℕ) (bound : List (List ℕ)) (p : Parametric) (ps : List Parametric) → LeftAlike a b owner bound (p ∷ ps) → Mentioned owner (mentioned_in_type p.ty bound) × Mentioned owner (expr_if p.default bound)
+  first_den a b owner bound p ps h =
+      den_parts (T owner) m (mentioned_in_type p.ty bound) (expr_if p.default bound)
+      (den_parts (T owner) m (mentioned_in_type p.ty bound ++ expr_if p.default bound) (parametrics_mentions ps (p.name.name ∷ bound)) h.mentions).0
+
+  -- what a function mentions, by its parts
+  pub record FunctionParts (f : Function) : Type 0 where
+    pub parametrics : Mentioned f.name.name (parametrics_mentions f.parametrics [])
+    pub arguments : Mentioned f.name.name (fields_mentions f.arguments (parametric_names f.parametrics))
+    pub result : Mentioned f.name.name (type_if f.result (parametric_names f.parametrics))
+    pub body : Mentioned f.name.name (mentioned_in_block f.body (field_names f.arguments ++ parametric_names f.parametrics))
+
+  pub function_parts : (f : Function) → Mentioned f.name.name (definition_mentions (d.Function f)) → FunctionParts f
+  function_parts f h =
+      let test = T f.name.name in
+      let parametric_args = parametric_names f.parametrics in
+      let one = parametrics_mentions f.parametrics [] in
+      let two = fields_mentions f.arguments parametric_args in
+      let three = type_if f.result parametric_args in
+      let q = den_parts test m ((one ++ two) ++ three) (mentioned_in_block f.body (field_names f.arguments ++ parametric_args)) h in
+      let r = den_parts test m (one ++ two) three q.0 in
+      let t = den_parts test m one two r.0 in
+      record { parametrics = t.0; arguments = t.1; result = r.1; body = q.1 }
+
+-- ---- parts of items that mention such alone as both know alike
+
+abbrev pub mentions_pass : (List ℕ → Bool) → Module → List ℕ → Bool
+mentions_pass P m owner = list_all P (mentions_of m (item_named owner m.items))
+
 module _ (P : List ℕ → Bool) (m : Module) (a b : GlobalEnv) (closed : IsClosed P m) (s : Stage P m a b) where
-  -- the item mentions such items alone, and so does a part
-  abbrev pub Own : List ℕ → Type 0
-  Own owner = list_all P (mentions_of m (item_named owner m.items)) ≡ true
+  abbrev AllPass : List Mention → Type 0
+  AllPass ms = list_all P (names_mentioned m ms) ≡ true
 
-  abbrev pub ExprDen : List Mention → Type 0
-  ExprDen ms = list_all P (names_mentioned m ms) ≡ true
+  pub mentions_alike : (owner : List ℕ) (ms : List Mention) → AllPass ms → MentionsAlike a b owner ms
+  mentions_alike owner [] h = tt
+  mentions_alike owner (n ∷ ms) h = let r = den_one P m n.use_as n.name ms h in (seen_from a b owner n.use_as n.name (s.uses n.use_as n.name r.0), mentions_alike owner ms r.1)
 
-  mentions_alike : (ms : List Mention) → ExprDen ms → MentionsAlike a b ms
-  mentions_alike [] h = tt
-  mentions_alike (n ∷ ms) h = let r = den_one P m n.use_as n.name ms h in (s.uses n.use_as n.name r.0, mentions_alike ms r.1)
+  pub agreeing : (ms : List Mention) → AllPass ms → Agreeing a.items b.items ms
+  agreeing ms h bound = mentions_agree P a b [] bound s.known ms (mentions_alike [] ms h)
+
+  pub plain_at : (name : List ℕ) → is_constant_item (item_named name m.items) ≡ false → a.items.constant name ≡ b.items.constant name
+  plain_at name e = s.uses AsValue name (λ u. absurd (true≢false (sym u ∙ value_use (item_named name m.items) ∙ e)))
 
   pub plain_alike : (names : List (List ℕ)) → AreNoConstants m names → NamesAlike a b names
   plain_alike [] h = tt
-  plain_alike (n ∷ ns) h = (s.uses AsValue n (λ e. absurd (true≢false (sym e ∙ value_use (item_named n m.items) ∙ h.0))), plain_alike ns h.1)
+  plain_alike (n ∷ ns) h = (plain_at n h.0, plain_alike ns h.1)
 
   -- where each enum that the item reaches passes
   pub sees_where : (owner : List ℕ) → ((name : List ℕ) → item_reaches a.whole owner name ≡ true → is_of_use AsEnum (item_named name m.items) ≡ true → P name ≡ true) → (bound : List (List ℕ)) → NamesAlike a b bound
-      → (ms : List Mention) → ExprDen ms → SeesAlike P bound owner a b ms
+      → (ms : List Mention) → AllPass ms → SeesAlike P bound owner a b ms
   sees_where owner reached bound n ms h = record {
     known = s.known;
     enums = λ name member e. (s.uses AsEnum name (reached name e)).members member;
     hidden = n;
-    reach = s.reach ms h;
-    alike = mentions_alike ms h;
+    reach = s.reach owner ms h;
+    alike = mentions_alike owner ms h;
   }
 
-  pub sees : (owner : List ℕ) → Own owner → (bound : List (List ℕ)) → NamesAlike a b bound → (ms : List Mention) → ExprDen ms → SeesAlike P bound owner a b ms
-  sees owner own = sees_where owner (λ name e q. reached_in P m closed (length m.items) owner name own (sym (λ i. item_reaches (s.text i) owner name) ∙ e))
+  pub sees_passing : (owner : List ℕ) → mentions_pass P m owner ≡ true → (bound : List (List ℕ)) → NamesAlike a b bound → (ms : List Mention) → AllPass ms → SeesAlike P bound owner a b ms
+  sees_passing owner own = sees_where owner (λ name e q. reached_in P m closed (length m.items) owner name own (sym (λ i. item_reaches (s.text i) owner name) ∙ e))
+
+  pub stage_sight : Sight P (mentions_pass P m) (λ owner. P) m a b
+  stage_sight = record { text = s.text; known = s.known; plain = plain_at; sees = sees_passing }
+
+-- ---- parts of items that both see alike
+
+module _ (P Q : List ℕ → Bool) (T : List ℕ → List ℕ → Bool) (m : Module) (a b : GlobalEnv) (s : Sight P Q T m a b) where
+  -- the item passes, and all that a part of it mentions
+  abbrev pub Own : List ℕ → Type 0
+  Own owner = Q owner ≡ true
+
+  abbrev pub ExprDen : List ℕ → List Mention → Type 0
+  ExprDen owner ms = list_all (T owner) (names_mentioned m ms) ≡ true
+
+  pub plain_names : (names : List (List ℕ)) → AreNoConstants m names → NamesAlike a b names
+  plain_names [] h = tt
+  plain_names (n ∷ ns) h = (s.plain n h.0, plain_names ns h.1)
 
   -- ---- parts
 
-  pub type_at : (owner : List ℕ) → Own owner → (bound : List (List ℕ)) → NamesAlike a b bound → (t : TypeExpr) → ExprDen (mentioned_in_type t bound) → (parametric_args : List Given) (unknown : List (List ℕ)) (locals : List Typed)
+  pub type_at : (owner : List ℕ) → Own owner → (bound : List (List ℕ)) → NamesAlike a b bound → (t : TypeExpr) → ExprDen owner (mentioned_in_type t bound) → (parametric_args : List Given) (unknown : List (List ℕ)) (locals : List Typed)
       → typing_of_type (type_env_at a owner parametric_args unknown locals) t ≡ typing_of_type (type_env_at b owner parametric_args unknown locals) t
-  type_at owner own bound n t h parametric_args unknown locals = written_type_alike P t bound (type_env_at a owner parametric_args unknown locals) b (sees owner own bound n (mentioned_in_type t bound) h)
+  type_at owner own bound n t h parametric_args unknown locals = written_type_alike P t bound (type_env_at a owner parametric_args unknown locals) b (s.sees owner own bound n (mentioned_in_type t bound) h)
 
-  pub inner_at : (owner : List ℕ) → Own owner → (bound : List (List ℕ)) → NamesAlike a b bound → (t : TypeExpr) → ExprDen (mentioned_in_type t bound) → (parametric_args : List Given) (unknown : List (List ℕ)) (locals : List Typed)
+  pub inner_at : (owner : List ℕ) → Own owner → (bound : List (List ℕ)) → NamesAlike a b bound → (t : TypeExpr) → ExprDen owner (mentioned_in_type t bound) → (parametric_args : List Given) (unknown : List (List ℕ)) (locals : List Typed)
       → typing_of_inner (type_env_at a owner parametric_args unknown locals) t ≡ typing_of_inner (type_env_at b owner parametric_args unknown locals) t
   inner_at owner own bound n t h parametric_args unknown locals = inner_same (type_env_at a owner parametric_args unknown locals) b (type_pair t) (type_at owner own bound n t h parametric_args unknown locals)
 
-  constant_at : (owner : List ℕ) → Own owner → (bound : List (List ℕ)) → NamesAlike a b bound → (e : Expr) → ExprDen (mentioned e bound) → (parametric_args : List Given) (unknown : List (List ℕ)) (locals : List Typed)
+  pub constant_at : (owner : List ℕ) → Own owner → (bound : List (List ℕ)) → NamesAlike a b bound → (e : Expr) → ExprDen owner (mentioned e bound) → (parametric_args : List Given) (unknown : List (List ℕ)) (locals : List Typed)
       → constant_of (type_env_at a owner parametric_args unknown locals) (expr_pair e) ≡ constant_of (type_env_at b owner parametric_args unknown locals) (expr_pair e)
   constant_at owner own bound n e h parametric_args unknown locals =
       constant_same P (type_env_at a owner parametric_args unknown locals) b (expr_pair e) s.known
-      (constant_alike P (expr_pair e) (mentioned e) (expression_alike P e) bound (type_env_at a owner parametric_args unknown locals) b (sees owner own bound n (mentioned e bound) h))
+      (constant_alike P (expr_pair e) (mentioned e) (expression_alike P e) bound (type_env_at a owner parametric_args unknown locals) b (s.sees owner own bound n (mentioned e bound) h))
 
   local_at : (owner : List ℕ) (parametric_args : List Given) (before : List (List ℕ)) (name : Ident) → local_name (item_type_env a owner parametric_args) before name ≡ local_name (item_type_env b owner parametric_args) before name
   local_at owner parametric_args before name = λ i. local_name (type_env_at (record a { whole = s.known.whole i }) owner parametric_args [] []) before name
@@ -185,51 +261,33 @@ module _ (P : List ℕ → Bool) (m : Module) (a b : GlobalEnv) (closed : IsClos
   -- ---- functions
 
   -- a default, wherever it stands
-  default_known_at : (owner : List ℕ) → Own owner → (bound : List (List ℕ)) → NamesAlike a b bound → (o : Option Expr) → ExprDen (expr_if o bound) → (parametric_args : List Given) (unknown : List (List ℕ))
+  default_known_at : (owner : List ℕ) → Own owner → (bound : List (List ℕ)) → NamesAlike a b bound → (o : Option Expr) → ExprDen owner (expr_if o bound) → (parametric_args : List Given) (unknown : List (List ℕ))
       → default_if (type_env_at a owner parametric_args unknown []) o ≡ default_if (type_env_at b owner parametric_args unknown []) o
   default_known_at owner own bound n None h parametric_args unknown = refl
   default_known_at owner own bound n (Some e) h parametric_args unknown =
       let c = constant_at owner own bound n e h parametric_args unknown [] in
       λ i. record { judgement = (c i).judgement; value = (c i).value }
 
-  -- parametrics that are left behind these names, and what they mention
-  record LeftAlike (bound : List (List ℕ)) (left : List Parametric) : Type 0 where
-    plain : NamesAlike a b bound
-    others : NamesAlike a b (parametric_names left)
-    mentions : ExprDen (parametrics_mentions left bound)
-
-  left_next : (bound : List (List ℕ)) (p : Parametric) (ps : List Parametric) → LeftAlike bound (p ∷ ps) → LeftAlike (p.name.name ∷ bound) ps
-  left_next bound p ps h = record {
-    plain = (h.others.0, h.plain);
-    others = h.others.1;
-    mentions = (den_parts P m (mentioned_in_type p.ty bound ++ expr_if p.default bound) (parametrics_mentions ps (p.name.name ∷ bound)) h.mentions).1;
-  }
-
-  -- the first one's type and default
-  first_den : (bound : List (List ℕ)) (p : Parametric) (ps : List Parametric) → LeftAlike bound (p ∷ ps) → ExprDen (mentioned_in_type p.ty bound) × ExprDen (expr_if p.default bound)
-  first_den bound p ps h =
-      den_parts P m (mentioned_in_type p.ty bound) (expr_if p.default bound) (den_parts P m (mentioned_in_type p.ty bound ++ expr_if p.default bound) (parametrics_mentions ps (p.name.name ∷ bound)) h.mentions).0
-
   -- the types of arguments
-  arguments_over : (owner : List ℕ) → Own owner → (fs : List Field) (bound : List (List ℕ)) → NamesAlike a b bound → ExprDen (fields_mentions fs bound) → (given : List Given) (unknown : List (List ℕ))
+  arguments_over : (owner : List ℕ) → Own owner → (fs : List Field) (bound : List (List ℕ)) → NamesAlike a b bound → ExprDen owner (fields_mentions fs bound) → (given : List Given) (unknown : List (List ℕ))
       → map (λ (f : Field). declared_type (type_env_at a owner given unknown []) f.ty) fs ≡ map (λ (f : Field). declared_type (type_env_at b owner given unknown []) f.ty) fs
   arguments_over owner own [] bound n h given unknown = refl
   arguments_over owner own (f ∷ fs) bound n h given unknown =
-      let both = den_parts P m (mentioned_in_type f.ty bound) (fields_mentions fs bound) h in
+      let both = den_parts (T owner) m (mentioned_in_type f.ty bound) (fields_mentions fs bound) h in
       λ i. unless_unit (type_at owner own bound n f.ty both.0 given unknown [] i).ty ∷ arguments_over owner own fs bound n both.1 given unknown i
 
-  result_over : (owner : List ℕ) → Own owner → (o : Option TypeExpr) (bound : List (List ℕ)) → NamesAlike a b bound → ExprDen (type_if o bound) → (given : List Given) (unknown : List (List ℕ))
+  result_over : (owner : List ℕ) → Own owner → (o : Option TypeExpr) (bound : List (List ℕ)) → NamesAlike a b bound → ExprDen owner (type_if o bound) → (given : List Given) (unknown : List (List ℕ))
       → result_typing (type_env_at a owner given unknown []) o ≡ result_typing (type_env_at b owner given unknown []) o
   result_over owner own None bound n h given unknown = refl
   result_over owner own (Some t) bound n h given unknown = type_at owner own bound n t h given unknown []
 
   -- what a function declares: the types and the defaults of its parametrics, and its signature
-  pub declared_over : (f : Function) → item_named f.name.name m.items ≡ Some (d.Function f) → Own f.name.name → NamesAlike a b (parametric_names f.parametrics) → ExprDen (parametrics_mentions f.parametrics [])
-      → ExprDen (fields_mentions f.arguments (parametric_names f.parametrics)) → ExprDen (type_if f.result (parametric_names f.parametrics)) → DeclaredAlike (globals_over a) (globals_over b) f.name.name
+  pub declared_over : (f : Function) → item_named f.name.name m.items ≡ Some (d.Function f) → Own f.name.name → NamesAlike a b (parametric_names f.parametrics) → ExprDen f.name.name (parametrics_mentions f.parametrics [])
+      → ExprDen f.name.name (fields_mentions f.arguments (parametric_names f.parametrics)) → ExprDen f.name.name (type_if f.result (parametric_names f.parametrics)) → DeclaredAlike (globals_over a) (globals_over b) f.name.name
   declared_over f is own plain ps fs rs =
-      declared_alike a b owner (d.Function f) ((λ i. item_named owner (s.text i).items) ∙ is) ((λ i. item_named owner (sym s.known.whole i).items) ∙ (λ i. item_named owner (s.text i).items) ∙ is) LeftAlike left_next
-      (λ bound p qs h given unknown. inner_at owner own bound h.plain p.ty (first_den bound p qs h).0 given unknown [])
-      (λ bound p qs h given unknown. default_known_at owner own bound h.plain p.default (first_den bound p qs h).1 given unknown)
+      declared_alike a b owner (d.Function f) ((λ i. item_named owner (s.text i).items) ∙ is) ((λ i. item_named owner (sym s.known.whole i).items) ∙ (λ i. item_named owner (s.text i).items) ∙ is) (LeftAlike T m a b owner) (left_next T m a b owner)
+      (λ bound p qs h given unknown. inner_at owner own bound h.plain p.ty (first_den T m a b owner bound p qs h).0 given unknown [])
+      (λ bound p qs h given unknown. default_known_at owner own bound h.plain p.default (first_den T m a b owner bound p qs h).1 given unknown)
       (λ given unknown.
       let arguments = arguments_over owner own f.arguments (parametric_names f.parametrics) plain fs given unknown in
       let result = result_over owner own f.result (parametric_names f.parametrics) plain rs given unknown in
@@ -239,71 +297,54 @@ module _ (P : List ℕ → Bool) (m : Module) (a b : GlobalEnv) (closed : IsClos
       owner : List ℕ
       owner = f.name.name
 
-  default_at : (owner : List ℕ) → Own owner → (bound : List (List ℕ)) → NamesAlike a b bound → (o : Option Expr) → ExprDen (expr_if o bound) → (parametric_args : List Given) (t u : Option DslxType) → t ≡ u
+  default_at : (owner : List ℕ) → Own owner → (bound : List (List ℕ)) → NamesAlike a b bound → (o : Option Expr) → ExprDen owner (expr_if o bound) → (parametric_args : List Given) (t u : Option DslxType) → t ≡ u
       → default_found (item_type_env a owner parametric_args) t o ≡ default_found (item_type_env b owner parametric_args) u o
   default_at owner own bound n None h parametric_args t u e = refl
   default_at owner own bound n (Some x) h parametric_args t u e = λ i. default_by (e i) x (constant_at owner own bound n x h parametric_args [] [] i)
 
   parametrics_at : (owner : List ℕ) → Own owner → (before : List (List ℕ)) (so_far : List Given) (ps : List Parametric) (values : List DslxValue) (bound : List (List ℕ)) → NamesAlike a b bound → NamesAlike a b (parametric_names ps)
-      → ExprDen (parametrics_mentions ps bound) → parametrics_found a owner before so_far ps values ≡ parametrics_found b owner before so_far ps values
+      → ExprDen owner (parametrics_mentions ps bound) → parametrics_found a owner before so_far ps values ≡ parametrics_found b owner before so_far ps values
   parametrics_at owner own before so_far [] values bound n plain h = refl
   parametrics_at owner own before so_far (p ∷ ps) values bound n plain h =
-      let front = den_parts P m (mentioned_in_type p.ty bound ++ expr_if p.default bound) (parametrics_mentions ps (p.name.name ∷ bound)) h in
-      let both = den_parts P m (mentioned_in_type p.ty bound) (expr_if p.default bound) front.0 in
+      let front = den_parts (T owner) m (mentioned_in_type p.ty bound ++ expr_if p.default bound) (parametrics_mentions ps (p.name.name ∷ bound)) h in
+      let both = den_parts (T owner) m (mentioned_in_type p.ty bound) (expr_if p.default bound) front.0 in
       let t = inner_at owner own bound n p.ty both.0 so_far [] [] in
       let default = default_at owner own bound n p.default both.1 so_far _ _ (ap (λ (j : Judgement). j.ty) t) in
       let rest = parametrics_at owner own (p.name.name ∷ before) (bound_with so_far p (number_at values)) ps (parametric_args_behind values) (p.name.name ∷ bound) (plain.0, n) plain.1 front.1 in
       λ i. and_found (only_faults (local_at owner so_far before p.name i)) (and_found (found_in (t i)) (and_found (default i) (rest i)))
 
-  arguments_at : (owner : List ℕ) → Own owner → (before : List (List ℕ)) (fs : List Field) (bound : List (List ℕ)) → NamesAlike a b bound → ExprDen (fields_mentions fs bound) → (parametric_args : List Given)
+  arguments_at : (owner : List ℕ) → Own owner → (before : List (List ℕ)) (fs : List Field) (bound : List (List ℕ)) → NamesAlike a b bound → ExprDen owner (fields_mentions fs bound) → (parametric_args : List Given)
       → arguments_found (item_type_env a owner parametric_args) before fs ≡ arguments_found (item_type_env b owner parametric_args) before fs
   arguments_at owner own before [] bound n h parametric_args = refl
   arguments_at owner own before (f ∷ fs) bound n h parametric_args =
-      let both = den_parts P m (mentioned_in_type f.ty bound) (fields_mentions fs bound) h in
+      let both = den_parts (T owner) m (mentioned_in_type f.ty bound) (fields_mentions fs bound) h in
       let rest = arguments_at owner own (f.name.name ∷ before) fs bound n both.1 parametric_args in
       λ i. and_found (only_faults (local_at owner parametric_args before f.name i)) (and_found (found_in (inner_at owner own bound n f.ty both.0 parametric_args [] [] i)) (rest i))
 
-  typed_at : (owner : List ℕ) → Own owner → (so_far : List Typed) (fs : List Field) (bound : List (List ℕ)) → NamesAlike a b bound → ExprDen (fields_mentions fs bound) → (parametric_args : List Given)
+  typed_at : (owner : List ℕ) → Own owner → (so_far : List Typed) (fs : List Field) (bound : List (List ℕ)) → NamesAlike a b bound → ExprDen owner (fields_mentions fs bound) → (parametric_args : List Given)
       → arguments_typed (item_type_env a owner parametric_args) so_far fs ≡ arguments_typed (item_type_env b owner parametric_args) so_far fs
   typed_at owner own so_far [] bound n h parametric_args = refl
   typed_at owner own so_far (f ∷ fs) bound n h parametric_args =
-      let both = den_parts P m (mentioned_in_type f.ty bound) (fields_mentions fs bound) h in
+      let both = den_parts (T owner) m (mentioned_in_type f.ty bound) (fields_mentions fs bound) h in
       typed_at owner own (record { name = f.name.name; ty = (typing_of_inner (item_type_env a owner parametric_args) f.ty).ty } ∷ so_far) fs bound n both.1 parametric_args
       ∙ (λ i. arguments_typed (item_type_env b owner parametric_args) (record { name = f.name.name; ty = (inner_at owner own bound n f.ty both.0 parametric_args [] [] i).ty } ∷ so_far) fs)
 
-  result_at : (owner : List ℕ) → Own owner → (o : Option TypeExpr) (bound : List (List ℕ)) → NamesAlike a b bound → ExprDen (type_if o bound) → (parametric_args : List Given)
+  result_at : (owner : List ℕ) → Own owner → (o : Option TypeExpr) (bound : List (List ℕ)) → NamesAlike a b bound → ExprDen owner (type_if o bound) → (parametric_args : List Given)
       → result_typing (item_type_env a owner parametric_args) o ≡ result_typing (item_type_env b owner parametric_args) o
   result_at owner own None bound n h parametric_args = refl
   result_at owner own (Some t) bound n h parametric_args = type_at owner own bound n t h parametric_args [] []
 
-  body_at : (owner : List ℕ) → Own owner → (body : Block) (bound : List (List ℕ)) → NamesAlike a b bound → ExprDen (mentioned_in_block body bound) → (parametric_args : List Given) (locals : List Typed) (wanted : Option DslxType)
+  body_at : (owner : List ℕ) → Own owner → (body : Block) (bound : List (List ℕ)) → NamesAlike a b bound → ExprDen owner (mentioned_in_block body bound) → (parametric_args : List Given) (locals : List Typed) (wanted : Option DslxType)
       → body_typing false (type_env_at a owner parametric_args [] locals) wanted body ≡ body_typing false (type_env_at b owner parametric_args [] locals) wanted body
   body_at owner own body bound n h parametric_args locals wanted =
       let context = type_env_at a owner parametric_args [] locals in
-      let j = block_of_text_alike P body bound false context b (sees owner own bound n (mentioned_in_block body bound) h) in
-      let reached = block_of_text_reaches P body bound false context (s.reach (mentioned_in_block body bound) h) in
+      let seen = s.sees owner own bound n (mentioned_in_block body bound) h in
+      let j = block_of_text_alike P body bound false context b seen in
+      let reached = block_of_text_reaches P body bound false context seen.reach in
       let clean = all_alike P a.is_unbroken b.is_unbroken s.known.unbroken ((block_pair body).1 false context).reached reached ∙ ap (λ (k : Judgement). list_all b.is_unbroken k.reached) j in
       λ i. limited_by (clean i) (out-Block body).span.to (record (j i) { faults = (j i).faults ++ wanted_faults (out-Block body).span wanted (j i).ty })
 
-  -- what a function mentions, by its parts
-  pub record FunctionParts (f : Function) : Type 0 where
-    pub parametrics : ExprDen (parametrics_mentions f.parametrics [])
-    pub arguments : ExprDen (fields_mentions f.arguments (parametric_names f.parametrics))
-    pub result : ExprDen (type_if f.result (parametric_names f.parametrics))
-    pub body : ExprDen (mentioned_in_block f.body (field_names f.arguments ++ parametric_names f.parametrics))
-
-  pub function_parts : (f : Function) → ExprDen (definition_mentions (d.Function f)) → FunctionParts f
-  function_parts f h =
-      let parametric_args = parametric_names f.parametrics in
-      let one = parametrics_mentions f.parametrics [] in
-      let two = fields_mentions f.arguments parametric_args in
-      let three = type_if f.result parametric_args in
-      let q = den_parts P m ((one ++ two) ++ three) (mentioned_in_block f.body (field_names f.arguments ++ parametric_args)) h in
-      let r = den_parts P m (one ++ two) three q.0 in
-      let t = den_parts P m one two r.0 in
-      record { parametrics = t.0; arguments = t.1; result = r.1; body = q.1 }
-
-  pub function_at : (f : Function) → Own f.name.name → FunctionParts f → NamesAlike a b (parametric_names f.parametrics) → NamesAlike a b (field_names f.arguments) → (parametric_args : List DslxValue) → function_seen a f parametric_args ≡ function_seen b f parametric_args
+  pub function_at : (f : Function) → Own f.name.name → FunctionParts T m f → NamesAlike a b (parametric_names f.parametrics) → NamesAlike a b (field_names f.arguments) → (parametric_args : List DslxValue) → function_seen a f parametric_args ≡ function_seen b f parametric_args
   function_at f own h plain arguments parametric_args =
       let owner = f.name.name in
       let given = parametric_args_bound [] f.parametrics parametric_args in
@@ -324,26 +365,26 @@ module _ (P : List ℕ → Bool) (m : Module) (a b : GlobalEnv) (closed : IsClos
   abbrev unbroken_by : Bool → Found → Bool
   unbroken_by unbroken found = not (has_broken found.faults) && unbroken
 
-  pub sound_at : (k : Instance) → Own k.name → found_of_instance a k ≡ found_of_instance b k → sound_instance a k ≡ sound_instance b k
-  sound_at k own same =
-      let sound = all_alike P a.is_sound b.is_sound s.known.sound (found_of_instance a k).reached (s.reached k own) ∙ ap (λ (f : Found). list_all b.is_sound f.reached) same in
+  pub sound_at : (k : Instance) → AllNamed P (found_of_instance a k).reached → found_of_instance a k ≡ found_of_instance b k → sound_instance a k ≡ sound_instance b k
+  sound_at k named same =
+      let sound = all_alike P a.is_sound b.is_sound s.known.sound (found_of_instance a k).reached named ∙ ap (λ (f : Found). list_all b.is_sound f.reached) same in
       λ i. sound_by (sound i) (same i)
 
-  pub unbroken_at : (k : Instance) → Own k.name → found_of_instance a k ≡ found_of_instance b k → unbroken_instance a k ≡ unbroken_instance b k
-  unbroken_at k own same =
-      let unbroken = all_alike P a.is_unbroken b.is_unbroken s.known.unbroken (found_of_instance a k).reached (s.reached k own) ∙ ap (λ (f : Found). list_all b.is_unbroken f.reached) same in
+  pub unbroken_at : (k : Instance) → AllNamed P (found_of_instance a k).reached → found_of_instance a k ≡ found_of_instance b k → unbroken_instance a k ≡ unbroken_instance b k
+  unbroken_at k named same =
+      let unbroken = all_alike P a.is_unbroken b.is_unbroken s.known.unbroken (found_of_instance a k).reached named ∙ ap (λ (f : Found). list_all b.is_unbroken f.reached) same in
       λ i. unbroken_by (unbroken i) (same i)
 
-  pub agreeing : (ms : List Mention) → ExprDen ms → Agreeing a.items b.items ms
-  agreeing ms h bound = mentions_agree P a b bound s.known ms (mentions_alike ms h)
-
   -- a call gives one value by both
-  pub call_at : (f : Function) → ExprDen (definition_mentions (d.Function f)) → (given operands : List DslxValue) → call_of a.items f given operands ≡ call_of b.items f given operands
-  call_at f h given operands = call_one a.items b.items f given operands (agreeing (definition_mentions (d.Function f)) h)
+  pub call_at : (f : Function) → Own f.name.name → ExprDen f.name.name (definition_mentions (d.Function f)) → (given operands : List DslxValue) → call_of a.items f given operands ≡ call_of b.items f given operands
+  call_at f own h given operands =
+      let owner = f.name.name in
+      let ms = definition_mentions (d.Function f) in
+      call_one a.items b.items f given operands (λ bound. mentions_agree P a b owner bound s.known ms (s.sees owner own [] tt ms h).alike)
 
   -- ---- other items
 
-  annotation_at : (owner : List ℕ) → Own owner → (o : Option TypeExpr) → ExprDen (type_if o []) → annotation_typing (item_type_env a owner []) o ≡ annotation_typing (item_type_env b owner []) o
+  annotation_at : (owner : List ℕ) → Own owner → (o : Option TypeExpr) → ExprDen owner (type_if o []) → annotation_typing (item_type_env a owner []) o ≡ annotation_typing (item_type_env b owner []) o
   annotation_at owner own None h = refl
   annotation_at owner own (Some t) h = type_at owner own [] tt t h [] [] []
 
@@ -355,9 +396,9 @@ module _ (P : List ℕ → Bool) (m : Module) (a b : GlobalEnv) (closed : IsClos
         value = if is_empty (written.faults ++ wrong) && is_annotated c.ty written.ty then value.value else None;
       }
 
-  pub constant_item_at : (c : Constant) → Own c.name.name → ExprDen (definition_mentions (d.Constant c)) → constant_seen a c ≡ constant_seen b c
+  pub constant_item_at : (c : Constant) → Own c.name.name → ExprDen c.name.name (definition_mentions (d.Constant c)) → constant_seen a c ≡ constant_seen b c
   constant_item_at c own h =
-      let both = den_parts P m (type_if c.ty []) (mentioned c.value []) h in
+      let both = den_parts (T c.name.name) m (type_if c.ty []) (mentioned c.value []) h in
       let written = annotation_at c.name.name own c.ty both.0 in
       let value = constant_at c.name.name own [] tt c.value both.1 [] [] [] in
       λ i. constant_found c (written i) (value i)
@@ -365,21 +406,21 @@ module _ (P : List ℕ → Bool) (m : Module) (a b : GlobalEnv) (closed : IsClos
   abbrev alias_found : Judgement → TypeFound
   alias_found j = record { found = found_in j; ty = unless_broken j.faults j.ty }
 
-  pub alias_at : (x : Alias) → Own x.name.name → ExprDen (definition_mentions (d.Alias x)) → alias_seen a x ≡ alias_seen b x
+  pub alias_at : (x : Alias) → Own x.name.name → ExprDen x.name.name (definition_mentions (d.Alias x)) → alias_seen a x ≡ alias_seen b x
   alias_at x own h = ap alias_found (type_at x.name.name own [] tt x.ty h [] [] [])
 
-  fields_at : (owner : List ℕ) → Own owner → (before : List (List ℕ)) (fs : List Field) → ExprDen (fields_mentions fs []) → fields_found (item_type_env a owner []) before fs ≡ fields_found (item_type_env b owner []) before fs
+  fields_at : (owner : List ℕ) → Own owner → (before : List (List ℕ)) (fs : List Field) → ExprDen owner (fields_mentions fs []) → fields_found (item_type_env a owner []) before fs ≡ fields_found (item_type_env b owner []) before fs
   fields_at owner own before [] h = refl
   fields_at owner own before (f ∷ fs) h =
-      let both = den_parts P m (mentioned_in_type f.ty []) (fields_mentions fs []) h in
+      let both = den_parts (T owner) m (mentioned_in_type f.ty []) (fields_mentions fs []) h in
       let rest = fields_at owner own (f.name.name ∷ before) fs both.1 in
       λ i. and_found (only_faults (listed_name before f.name)) (and_found (found_in (inner_at owner own [] tt f.ty both.0 [] [] [] i)) (rest i))
 
-  field_types_at : (owner : List ℕ) → Own owner → (fs : List Field) → ExprDen (fields_mentions fs [])
+  field_types_at : (owner : List ℕ) → Own owner → (fs : List Field) → ExprDen owner (fields_mentions fs [])
       → map (λ (f : Field). (typing_of_inner (item_type_env a owner []) f.ty).ty) fs ≡ map (λ (f : Field). (typing_of_inner (item_type_env b owner []) f.ty).ty) fs
   field_types_at owner own [] h = refl
   field_types_at owner own (f ∷ fs) h =
-      let both = den_parts P m (mentioned_in_type f.ty []) (fields_mentions fs []) h in
+      let both = den_parts (T owner) m (mentioned_in_type f.ty []) (fields_mentions fs []) h in
       λ i. (inner_at owner own [] tt f.ty both.0 [] [] [] i).ty ∷ field_types_at owner own fs both.1 i
 
   abbrev struct_found : Struct → Found → Option (List DslxType) → TypeFound
@@ -388,13 +429,13 @@ module _ (P : List ℕ → Bool) (m : Module) (a b : GlobalEnv) (closed : IsClos
       let t = unless_broken faults (and_then types (λ ts. Some (ty.Struct x.name.name (map name_of_field x.fields) ts))) in
       record { found = record { faults = faults ++ type_limits x.span.to t; reached = found.reached }; ty = t }
 
-  pub struct_at : (x : Struct) → Own x.name.name → ExprDen (definition_mentions (d.Struct x)) → struct_seen a x ≡ struct_seen b x
+  pub struct_at : (x : Struct) → Own x.name.name → ExprDen x.name.name (definition_mentions (d.Struct x)) → struct_seen a x ≡ struct_seen b x
   struct_at x own h =
       let found = fields_at x.name.name own [] x.fields h in
       let types = field_types_at x.name.name own x.fields h in
       λ i. struct_found x (found i) (all_some (types i))
 
-  member_at : (owner : List ℕ) → Own owner → (t u : Option DslxType) → t ≡ u → (x : Member) → ExprDen (mentioned x.value []) → member_constant (item_type_env a owner []) t x ≡ member_constant (item_type_env b owner []) u x
+  member_at : (owner : List ℕ) → Own owner → (t u : Option DslxType) → t ≡ u → (x : Member) → ExprDen owner (mentioned x.value []) → member_constant (item_type_env a owner []) t x ≡ member_constant (item_type_env b owner []) u x
   member_at owner own t u e x h = by_untyped (untyped_of (expr_pair x.value))
     where
       by_untyped : (o : Option UntypedLiteral) → member_by (item_type_env a owner []) t (expr_pair x.value) o ≡ member_by (item_type_env b owner []) u (expr_pair x.value) o
@@ -406,19 +447,19 @@ module _ (P : List ℕ → Bool) (m : Module) (a b : GlobalEnv) (closed : IsClos
   abbrev members_mentions : List Member → List Mention
   members_mentions ms = flat_map (λ (x : Member). mentioned x.value []) ms
 
-  members_at : (owner : List ℕ) → Own owner → (t u : Option DslxType) → t ≡ u → (before : List (List ℕ)) (ms : List Member) → ExprDen (members_mentions ms)
+  members_at : (owner : List ℕ) → Own owner → (t u : Option DslxType) → t ≡ u → (before : List (List ℕ)) (ms : List Member) → ExprDen owner (members_mentions ms)
       → members_found (item_type_env a owner []) t before ms ≡ members_found (item_type_env b owner []) u before ms
   members_at owner own t u e before [] h = refl
   members_at owner own t u e before (x ∷ ms) h =
-      let both = den_parts P m (mentioned x.value []) (members_mentions ms) h in
+      let both = den_parts (T owner) m (mentioned x.value []) (members_mentions ms) h in
       let one = member_at owner own t u e x both.0 in
       let rest = members_at owner own t u e (x.name.name ∷ before) ms both.1 in
       λ i. and_found (only_faults (listed_name before x.name)) (and_found (one i).found (rest i))
 
-  values_at : (owner : List ℕ) → Own owner → (t u : Option DslxType) → t ≡ u → (ms : List Member) → ExprDen (members_mentions ms) → member_values (item_type_env a owner []) t ms ≡ member_values (item_type_env b owner []) u ms
+  values_at : (owner : List ℕ) → Own owner → (t u : Option DslxType) → t ≡ u → (ms : List Member) → ExprDen owner (members_mentions ms) → member_values (item_type_env a owner []) t ms ≡ member_values (item_type_env b owner []) u ms
   values_at owner own t u e [] h = refl
   values_at owner own t u e (x ∷ ms) h =
-      let both = den_parts P m (mentioned x.value []) (members_mentions ms) h in
+      let both = den_parts (T owner) m (mentioned x.value []) (members_mentions ms) h in
       λ i. (member_at owner own t u e x both.0 i).value ∷ values_at owner own t u e ms both.1 i
 
   abbrev enum_found : Enum → Judgement → Found → List (Option DslxValue) → TypeFound
@@ -427,31 +468,31 @@ module _ (P : List ℕ → Bool) (m : Module) (a b : GlobalEnv) (closed : IsClos
       record { found = record { faults = faults; reached = base.reached ++ members.reached }; ty = unless_broken faults (enum_of_base x.name.name base.ty) }
 
   -- the base of an enum, and its members
-  enum_base : (x : Enum) → Own x.name.name → ExprDen (definition_mentions (d.Enum x)) → typing_of_type (item_type_env a x.name.name []) x.base ≡ typing_of_type (item_type_env b x.name.name []) x.base
-  enum_base x own h = type_at x.name.name own [] tt x.base (den_parts P m (mentioned_in_type x.base []) (members_mentions x.members) h).0 [] [] []
+  enum_base : (x : Enum) → Own x.name.name → ExprDen x.name.name (definition_mentions (d.Enum x)) → typing_of_type (item_type_env a x.name.name []) x.base ≡ typing_of_type (item_type_env b x.name.name []) x.base
+  enum_base x own h = type_at x.name.name own [] tt x.base (den_parts (T x.name.name) m (mentioned_in_type x.base []) (members_mentions x.members) h).0 [] [] []
 
-  pub enum_at : (x : Enum) → Own x.name.name → ExprDen (definition_mentions (d.Enum x)) → enum_seen a x ≡ enum_seen b x
+  pub enum_at : (x : Enum) → Own x.name.name → ExprDen x.name.name (definition_mentions (d.Enum x)) → enum_seen a x ≡ enum_seen b x
   enum_at x own h =
       let base = enum_base x own h in
       let bits = ap (λ (j : Judgement). base_if_bits j.ty) base in
-      let rest = (den_parts P m (mentioned_in_type x.base []) (members_mentions x.members) h).1 in
+      let rest = (den_parts (T x.name.name) m (mentioned_in_type x.base []) (members_mentions x.members) h).1 in
       let members = members_at x.name.name own _ _ bits [] x.members rest in
       let values = values_at x.name.name own _ _ bits x.members rest in
       λ i. enum_found x (base i) (members i) (values i)
 
   -- the member of a name
-  pub named_member_at : (x : Enum) → Own x.name.name → ExprDen (definition_mentions (d.Enum x)) → (name : List ℕ) → enum_member_value a x name (member_named name x.members) ≡ enum_member_value b x name (member_named name x.members)
+  pub named_member_at : (x : Enum) → Own x.name.name → ExprDen x.name.name (definition_mentions (d.Enum x)) → (name : List ℕ) → enum_member_value a x name (member_named name x.members) ≡ enum_member_value b x name (member_named name x.members)
   named_member_at x own h name =
-      let rest = (den_parts P m (mentioned_in_type x.base []) (members_mentions x.members) h).1 in
+      let rest = (den_parts (T x.name.name) m (mentioned_in_type x.base []) (members_mentions x.members) h).1 in
       let bits = ap (λ (j : Judgement). base_if_bits j.ty) (enum_base x own h) in
       among bits (ap (λ (t : TypeFound). t.ty) (enum_at x own h)) x.members rest
     where
-      among : base_if_bits (typing_of_type (item_type_env a x.name.name []) x.base).ty ≡ base_if_bits (typing_of_type (item_type_env b x.name.name []) x.base).ty → (enum_seen a x).ty ≡ (enum_seen b x).ty → (ms : List Member) → ExprDen (members_mentions ms)
+      among : base_if_bits (typing_of_type (item_type_env a x.name.name []) x.base).ty ≡ base_if_bits (typing_of_type (item_type_env b x.name.name []) x.base).ty → (enum_seen a x).ty ≡ (enum_seen b x).ty → (ms : List Member) → ExprDen x.name.name (members_mentions ms)
           → enum_member_value a x name (member_named name ms) ≡ enum_member_value b x name (member_named name ms)
       among bits t [] k = refl
-      among bits t (y ∷ ms) k = by_name (bytes_eq name y.name.name) (den_parts P m (mentioned y.value []) (members_mentions ms) k).0 (among bits t ms (den_parts P m (mentioned y.value []) (members_mentions ms) k).1)
+      among bits t (y ∷ ms) k = by_name (bytes_eq name y.name.name) (den_parts (T x.name.name) m (mentioned y.value []) (members_mentions ms) k).0 (among bits t ms (den_parts (T x.name.name) m (mentioned y.value []) (members_mentions ms) k).1)
         where
-          by_name : (q : Bool) → ExprDen (mentioned y.value []) → enum_member_value a x name (member_named name ms) ≡ enum_member_value b x name (member_named name ms)
+          by_name : (q : Bool) → ExprDen x.name.name (mentioned y.value []) → enum_member_value a x name (member_named name ms) ≡ enum_member_value b x name (member_named name ms)
               → enum_member_value a x name (if q then Some y else member_named name ms) ≡ enum_member_value b x name (if q then Some y else member_named name ms)
           by_name true own_member more = λ i. and_then (t i) (λ u. and_then (member_at x.name.name own _ _ bits y own_member i).value (enum_member x.name.name))
           by_name false own_member more = more

@@ -9,7 +9,7 @@ use Rattle.dslx_meaning.specs.Environment.{Env, Given, given_in}
 use Rattle.dslx_meaning.specs.Lists.{is_in, or_else}
 use Rattle.dslx_meaning.specs.Meaning.{fitted}
 use Rattle.dslx_meaning.specs.declared.value.DslxValue.{DslxValue}
-use Rattle.dslx_meaning.specs.Rules.TypeEnvs.{ExprPair, ExprTyping, GlobalEnv, TypeEnv, constant_env, span_of, within}
+use Rattle.dslx_meaning.specs.Rules.TypeEnvs.{ExprPair, ExprTyping, GlobalEnv, TypeEnv, constant_env, span_of, within, DefaultSeen, Judgement}
 use Rattle.dslx_meaning.specs.Rules.Mentions.{Use, AsValue, AsPattern, AsType, AsFunction, AsProc, AsEnum, AsStruct, Mention, Mentions, NamesBound, mention, mentioned, value_mention}
 use Rattle.dslx_meaning.specs.Rules.NodeRules.{expr_pair}
 use Rattle.dslx_meaning.specs.Rules.PatternRules.{is_there}
@@ -17,15 +17,15 @@ use Rattle.dslx_core.specs.Typing.Laws.Agreement.{AgreeOn, MeansOne}
 use Rattle.dslx_core.proofs.Lemmas.Typing.Laws.{FitAlike, NamesAgree, pattern_depends, unchanged, value_depends}
 use Rattle.dslx_core.specs.Typing.TypingRelations.Reached.{AllNamed, MentionsReach}
 use Rattle.dslx_core.proofs.Lemmas.Typing.TypingRelations.{expression_reaches, parts, unmarked}
-use Rattle.dslx_core.specs.Typing.Depends.Alike.{GlobalsAgree, MentionsAlike, NamesAlike, SeesAlike, UseAlike, in_globals}
+use Rattle.dslx_core.specs.Typing.Depends.Alike.{DeclaredAlike, GlobalsAgree, MentionsAlike, NamesAlike, SeenAlike, SeesAlike, TypesAlike, UseAlike, in_globals}
 use Rattle.dslx_core.proofs.OnTyping.OnDepends.Links.{mentions, mention_steps}
 use Rattle.dslx_core.proofs.OnTyping.OnDepends.Same.{ConstantSame}
 
 -- ---- lists of mentions and names
 
-alike_parts : (a b : GlobalEnv) (xs ys : List Mention) → MentionsAlike a b (xs ++ ys) → MentionsAlike a b xs × MentionsAlike a b ys
-alike_parts a b [] ys h = (tt, h)
-alike_parts a b (x ∷ xs) ys h = let r = alike_parts a b xs ys h.1 in ((h.0, r.0), r.1)
+alike_parts : (a b : GlobalEnv) (owner : List ℕ) (xs ys : List Mention) → MentionsAlike a b owner (xs ++ ys) → MentionsAlike a b owner xs × MentionsAlike a b owner ys
+alike_parts a b owner [] ys h = (tt, h)
+alike_parts a b owner (x ∷ xs) ys h = let r = alike_parts a b owner xs ys h.1 in ((h.0, r.0), r.1)
 
 pub names_join : (a b : GlobalEnv) (xs ys : List (List ℕ)) → NamesAlike a b xs → NamesAlike a b ys → NamesAlike a b (xs ++ ys)
 names_join a b [] ys h k = k
@@ -41,26 +41,43 @@ hidden_constant a b (n ∷ ns) name h e = by_name (bytes_eq name n) refl e (hidd
     by_name false q e rest = rest e
 
 -- the constant of a name, be it hidden or mentioned
-pub value_alike : (a b : GlobalEnv) (bound : List (List ℕ)) (name : List ℕ) → NamesAlike a b bound → MentionsAlike a b (value_mention name bound) → a.items.constant name ≡ b.items.constant name
-value_alike a b bound name n h = by_in (is_in name bound) refl h
+pub value_alike : (a b : GlobalEnv) (owner : List ℕ) (bound : List (List ℕ)) (name : List ℕ) → NamesAlike a b bound → MentionsAlike a b owner (value_mention name bound) → a.items.constant name ≡ b.items.constant name
+value_alike a b owner bound name n h = by_in (is_in name bound) refl h
   where
-    by_in : (t : Bool) → is_in name bound ≡ t → MentionsAlike a b (if t then [] else mention AsValue name) → a.items.constant name ≡ b.items.constant name
+    by_in : (t : Bool) → is_in name bound ≡ t → MentionsAlike a b owner (if t then [] else mention AsValue name) → a.items.constant name ≡ b.items.constant name
     by_in true q k = hidden_constant a b bound name n q
     by_in false q k = k.0
 
 -- the same place, for a part that mentions this
-abbrev pub for_part : (P : List ℕ → Bool) (bound : List (List ℕ)) (owner : List ℕ) (a b : GlobalEnv) (xs ys : List Mention) → SeesAlike P bound owner a b xs → MentionsReach P a ys → MentionsAlike a b ys → SeesAlike P bound owner a b ys
+abbrev pub for_part : (P : List ℕ → Bool) (bound : List (List ℕ)) (owner : List ℕ) (a b : GlobalEnv) (xs ys : List Mention) → SeesAlike P bound owner a b xs → MentionsReach P a owner ys → MentionsAlike a b owner ys → SeesAlike P bound owner a b ys
 for_part P bound owner a b xs ys h r k = record { known = h.known; enums = h.enums; hidden = h.hidden; reach = r; alike = k }
 
 pub first_part : (P : List ℕ → Bool) (bound : List (List ℕ)) (owner : List ℕ) (a b : GlobalEnv) (xs ys : List Mention) → SeesAlike P bound owner a b (xs ++ ys) → SeesAlike P bound owner a b xs
-first_part P bound owner a b xs ys h = for_part P bound owner a b (xs ++ ys) xs h (parts P a xs ys h.reach).0 (alike_parts a b xs ys h.alike).0
+first_part P bound owner a b xs ys h = for_part P bound owner a b (xs ++ ys) xs h (parts P a owner xs ys h.reach).0 (alike_parts a b owner xs ys h.alike).0
 
 pub second_part : (P : List ℕ → Bool) (bound : List (List ℕ)) (owner : List ℕ) (a b : GlobalEnv) (xs ys : List Mention) → SeesAlike P bound owner a b (xs ++ ys) → SeesAlike P bound owner a b ys
-second_part P bound owner a b xs ys h = for_part P bound owner a b (xs ++ ys) ys h (parts P a xs ys h.reach).1 (alike_parts a b xs ys h.alike).1
+second_part P bound owner a b xs ys h = for_part P bound owner a b (xs ++ ys) ys h (parts P a owner xs ys h.reach).1 (alike_parts a b owner xs ys h.alike).1
 
 -- behind more names
 pub behind_names : (P : List ℕ → Bool) (names bound : List (List ℕ)) (owner : List ℕ) (a b : GlobalEnv) (ms : List Mention) → NamesAlike a b names → SeesAlike P bound owner a b ms → SeesAlike P (names ++ bound) owner a b ms
 behind_names P names bound owner a b ms n h = record { known = h.known; enums = h.enums; hidden = names_join a b names bound n h.hidden; reach = h.reach; alike = h.alike }
+
+-- what is known alike of an item is seen alike
+pub types_from : (a b : GlobalEnv) (owner : List ℕ) → DeclaredAlike a b owner → TypesAlike a b owner
+types_from a b owner h = record {
+  parameter = λ before. ap (λ (j : Judgement). j.ty) (h.parameter before);
+  default = λ before. ap (λ (x : DefaultSeen). x.value) (h.default before);
+  signature = h.signature;
+}
+
+pub seen_from : (a b : GlobalEnv) (owner : List ℕ) (u : Use) (name : List ℕ) → UseAlike a b u name → SeenAlike a b owner u name
+seen_from a b owner AsValue name h = h
+seen_from a b owner AsPattern name h = h
+seen_from a b owner AsType name h = h
+seen_from a b owner AsFunction name h = record { call = h.call; types = λ f e. types_from a b f.name.name (h.function f e).declared; function = λ free f e. h.function f e }
+seen_from a b owner AsProc name h = h
+seen_from a b owner AsEnum name h = h
+seen_from a b owner AsStruct name h = h
 
 -- ---- environments of constants
 
@@ -71,18 +88,18 @@ names_agree : (a b : GlobalEnv) (given : List Given) (names : List (List ℕ)) �
 names_agree a b given [] h = tt
 names_agree a b given (n ∷ ns) h = (ap (or_else (given_in n given)) h.0, names_agree a b given ns h.1)
 
-use_agrees : (P : List ℕ → Bool) (a b : GlobalEnv) (given : List Given) → GlobalsAgree P a b → (u : Use) (name : List ℕ) → UseAlike a b u name → MeansOne (env_of a given) (env_of b given) u name
-use_agrees P a b given k AsValue name h = ap (or_else (given_in name given)) h
-use_agrees P a b given k AsPattern name h = record { kind = k.kinds name; constant = λ c. h; value = λ c. ap (or_else (given_in name given)) h }
-use_agrees P a b given k AsType name h = h
-use_agrees P a b given k AsFunction name h = h.call
-use_agrees P a b given k AsProc name h = tt
-use_agrees P a b given k AsEnum name h = h.members
-use_agrees P a b given k AsStruct name h = h
+use_agrees : (P : List ℕ → Bool) (a b : GlobalEnv) (owner : List ℕ) (given : List Given) → GlobalsAgree P a b → (u : Use) (name : List ℕ) → SeenAlike a b owner u name → MeansOne (env_of a given) (env_of b given) u name
+use_agrees P a b owner given k AsValue name h = ap (or_else (given_in name given)) h
+use_agrees P a b owner given k AsPattern name h = record { kind = k.kinds name; constant = λ c. h; value = λ c. ap (or_else (given_in name given)) h }
+use_agrees P a b owner given k AsType name h = h
+use_agrees P a b owner given k AsFunction name h = h.call
+use_agrees P a b owner given k AsProc name h = tt
+use_agrees P a b owner given k AsEnum name h = h.members
+use_agrees P a b owner given k AsStruct name h = h
 
-pub mentions_agree : (P : List ℕ → Bool) (a b : GlobalEnv) (given : List Given) → GlobalsAgree P a b → (ms : List Mention) → MentionsAlike a b ms → AgreeOn ms (env_of a given) (env_of b given)
-mentions_agree P a b given k [] h = tt
-mentions_agree P a b given k (m ∷ ms) h = (use_agrees P a b given k m.use_as m.name h.0, mentions_agree P a b given k ms h.1)
+pub mentions_agree : (P : List ℕ → Bool) (a b : GlobalEnv) (owner : List ℕ) (given : List Given) → GlobalsAgree P a b → (ms : List Mention) → MentionsAlike a b owner ms → AgreeOn ms (env_of a given) (env_of b given)
+mentions_agree P a b owner given k [] h = tt
+mentions_agree P a b owner given k (m ∷ ms) h = (use_agrees P a b owner given k m.use_as m.name h.0, mentions_agree P a b owner given k ms h.1)
 
 -- ---- constants
 
@@ -101,10 +118,10 @@ constant_alike P e ms x bound context other h = record {
   part = x.typing bound false context other h;
   reached = unmarked P (span_of e) (within context e)
       (subst (λ (p : ExprPair). AllNamed P (p.1 false context).reached) x.pair
-      (expression_reaches P e.0 bound false context (subst (λ (m : Mentions). MentionsReach P context.known (m bound)) (sym x.mentions) h.reach)));
+      (expression_reaches P e.0 bound false context (subst (λ (m : Mentions). MentionsReach P context.known context.owner (m bound)) (sym x.mentions) h.reach)));
   value = value_depends e.0 bound (constant_env context) (constant_env (in_globals context other)) (names_agree context.known other (constant_env context).bound bound h.hidden)
       (subst (λ (m : Mentions). AgreeOn (m bound) (constant_env context) (constant_env (in_globals context other))) (sym x.mentions)
-      (mentions_agree P context.known other (constant_env context).bound h.known (ms bound) h.alike));
+      (mentions_agree P context.known other context.owner (constant_env context).bound h.known (ms bound) h.alike));
 }
 
 -- ---- patterns that are tried on a value
@@ -123,4 +140,4 @@ fits_alike P p n same bound context other h v =
     let own = fold_pattern mentions mention_steps p in
     there_alike own.names a b (fitted p v a) (fitted p v b)
     ((pattern_depends p).fits bound a b a b v (names_agree context.known other a.bound bound h.hidden)
-    (subst (λ (m : NamesBound). AgreeOn (m.mentions bound) a b) (sym same) (mentions_agree P context.known other a.bound h.known (n.mentions bound) h.alike)) (unchanged [] a b tt))
+    (subst (λ (m : NamesBound). AgreeOn (m.mentions bound) a b) (sym same) (mentions_agree P context.known other context.owner a.bound h.known (n.mentions bound) h.alike)) (unchanged [] a b tt))

@@ -19,17 +19,17 @@ use Rattle.dslx_meaning.specs.declared.ty.DslxType.{DslxType}
 use Rattle.dslx_meaning.specs.declared.value.DslxValue.{DslxValue}
 use Rattle.dslx_meaning.specs.Rules.ItemRules.{ConstantFound, FunctionSeen, TypeFound, constant_seen, enum_member_value, function_seen, struct_seen}
 use Rattle.dslx_meaning.specs.Rules.TypeEnvs.{Instance, GlobalEnv}
-use Rattle.dslx_meaning.specs.Rules.Mentions.{Use, AsValue, AsPattern, AsType, AsFunction, AsProc, AsEnum, AsStruct, Mention, definition_mentions, expr_if, field_names, fields_mentions, is_of_use, mentioned, mentioned_in_block, mentioned_in_type, mentions_of, names_mentioned, parametric_names, parametrics_mentions, type_if, is_cyclic}
+use Rattle.dslx_meaning.specs.Rules.Mentions.{Use, AsValue, AsPattern, AsType, AsFunction, AsProc, AsEnum, AsStruct, Mention, definition_mentions, expr_if, field_names, fields_mentions, is_of_use, mentioned, mentioned_in_block, mentioned_in_type, mentions_of, names_mentioned, parametric_names, parametrics_mentions, type_if, is_cyclic, item_reaches}
 use Rattle.dslx_meaning.specs.Rules.ModuleRules.{found_of_instance, found_of_item, globals_over, globals_within, size_known, type_known}
 use Rattle.dslx_core.specs.Typing.TypingRelations.Closed.{ends_within}
-use Rattle.dslx_core.specs.Typing.TypingRelations.Reached.{IsClosed}
+use Rattle.dslx_core.specs.Typing.TypingRelations.Reached.{AllNamed, IsClosed}
 use Rattle.dslx_core.proofs.Lemmas.Typing.TypingRelations.{closed, every_item, function_is, instances_reach, item_so_named, den_reach, cyclic_is, whole_is}
 use Rattle.dslx_core.specs.Typing.Depends.Alike.{CalleeAlike, EnumAlike, FunctionAlike, GlobalsAgree, UseAlike}
 use Rattle.dslx_core.specs.Typing.Laws.Recursion.{HasNoCycle}
 use Rattle.dslx_core.specs.Typing.Depends.Settled.{BindsNoConstant}
 use Rattle.dslx_core.proofs.OnTyping.OnDepends.NoProcs.{IsNoProc, NoProcs, no_proc_in_block, no_proc_in_expression, no_proc_in_type, no_procs_join}
 use Rattle.dslx_core.proofs.OnTyping.OnDepends.OfItems as of
-use Rattle.dslx_core.proofs.OnTyping.OnDepends.OfItems.{Stage}
+use Rattle.dslx_core.proofs.OnTyping.OnDepends.OfItems.{Sight, Stage, mentions_pass, stage_sight}
 
 abbrev there : {A : Type 0} → Option A → Bool
 there None = false
@@ -44,15 +44,27 @@ pattern_use (Some (d.Struct x)) = refl
 pattern_use (Some (d.Enum x)) = refl
 pattern_use None = refl
 
+-- a call of what reaches itself has no value
+abbrev pub call_unless : Bool → Option DslxValue → Option DslxValue
+call_unless loops v = if loops then None else v
+
+pub unless_none : (loops : Bool) (v : Option DslxValue) → v ≡ None → call_unless loops v ≡ None
+unless_none true v e = refl
+unless_none false v e = e
+
 abbrev pub is_proc_item : Option Definition → Bool
 is_proc_item (Some (d.Proc p)) = true
 is_proc_item _ = false
 
 -- ---- an item over what it mentions
 
-module _ (P : List ℕ → Bool) (m : Module) (a b : GlobalEnv) (closed_in : IsClosed P m) (s : Stage P m a b) (plain : BindsNoConstant m) where
+-- where the test of items passes, so does what they mention
+abbrev pub MentionsOwn : (List ℕ → Bool) → (List ℕ → List ℕ → Bool) → Module → Type 0
+MentionsOwn Q T m = (name : List ℕ) → Q name ≡ true → list_all (T name) (mentions_of m (item_named name m.items)) ≡ true
+
+module _ (P Q : List ℕ → Bool) (T : List ℕ → List ℕ → Bool) (m : Module) (a b : GlobalEnv) (s : Sight P Q T m a b) (has : MentionsOwn Q T m) (plain : BindsNoConstant m) where
   abbrev pub Own : List ℕ → Type 0
-  Own owner = list_all P (mentions_of m (item_named owner m.items)) ≡ true
+  Own owner = Q owner ≡ true
 
   other_text : b.whole ≡ m
   other_text = sym s.known.whole ∙ s.text
@@ -64,18 +76,18 @@ module _ (P : List ℕ → Bool) (m : Module) (a b : GlobalEnv) (closed_in : IsC
   pub named_again : (name : List ℕ) (x : Definition) → item_named name m.items ≡ Some x → item_named (name_of_definition x) m.items ≡ Some x
   named_again name x q = subst (λ n. item_named n m.items ≡ Some x) (sym (item_so_named m.items name x q)) q
 
-  -- an item's mentions
-  pub own_mentions : (name : List ℕ) (x : Definition) → item_named name m.items ≡ Some x → Own name → list_all P (names_mentioned m (definition_mentions x)) ≡ true
-  own_mentions name x q own = (λ i. list_all P (mentions_of m (sym q i))) ∙ own
-
   pub own_again : (name : List ℕ) (x : Definition) → item_named name m.items ≡ Some x → Own name → Own (name_of_definition x)
-  own_again name x q own = (λ i. list_all P (mentions_of m (named_again name x q i))) ∙ own_mentions name x q own
+  own_again name x q own = ap Q (item_so_named m.items name x q) ∙ own
+
+  -- an item's mentions
+  pub own_mentions : (name : List ℕ) (x : Definition) → item_named name m.items ≡ Some x → Own name → list_all (T (name_of_definition x)) (names_mentioned m (definition_mentions x)) ≡ true
+  own_mentions name x q own = (λ i. list_all (T (name_of_definition x)) (mentions_of m (sym (named_again name x q) i))) ∙ has (name_of_definition x) (own_again name x q own)
 
   pub function_at : (name : List ℕ) (f : Function) → item_named name m.items ≡ Some (d.Function f) → Own name → (parametric_args : List DslxValue) → function_seen a f parametric_args ≡ function_seen b f parametric_args
   function_at name f q own parametric_args =
       let names = plain name f (ap as_function q) in
-      of.function_at P m a b closed_in s f (own_again name (d.Function f) q own) (of.function_parts P m a b closed_in s f (own_mentions name (d.Function f) q own))
-      (of.plain_alike P m a b closed_in s (parametric_names f.parametrics) names.0) (of.plain_alike P m a b closed_in s (field_names f.arguments) names.1) parametric_args
+      of.function_at P Q T m a b s f (own_again name (d.Function f) q own) (of.function_parts T m f (own_mentions name (d.Function f) q own))
+      (of.plain_names P Q T m a b s (parametric_names f.parametrics) names.0) (of.plain_names P Q T m a b s (field_names f.arguments) names.1) parametric_args
 
   -- instances of what is no proc
   found_at : (k : Instance) → Own k.name → is_proc_item (item_named k.name m.items) ≡ false → found_of_instance a k ≡ found_of_instance b k
@@ -97,7 +109,7 @@ module _ (P : List ℕ → Bool) (m : Module) (a b : GlobalEnv) (closed_in : IsC
 
   constant_at : (name : List ℕ) (o : Option Definition) → item_named name m.items ≡ o → (is_of_use AsValue o ≡ true → Own name) → constant_over a o ≡ constant_over b o
   constant_at name (Some (d.Constant c)) q own =
-      ap (λ (x : ConstantFound). x.value) (of.constant_item_at P m a b closed_in s c (own_again name (d.Constant c) q (own refl)) (own_mentions name (d.Constant c) q (own refl)))
+      ap (λ (x : ConstantFound). x.value) (of.constant_item_at P Q T m a b s c (own_again name (d.Constant c) q (own refl)) (own_mentions name (d.Constant c) q (own refl)))
   constant_at name (Some (d.Function f)) q own = refl
   constant_at name (Some (d.Proc p)) q own = refl
   constant_at name (Some (d.Alias t)) q own = refl
@@ -106,9 +118,9 @@ module _ (P : List ℕ → Bool) (m : Module) (a b : GlobalEnv) (closed_in : IsC
   constant_at name None q own = refl
 
   type_at : (name : List ℕ) (o : Option Definition) → item_named name m.items ≡ o → (is_of_use AsType o ≡ true → Own name) → type_known a o ≡ type_known b o
-  type_at name (Some (d.Alias x)) q own = ap (λ (t : TypeFound). t.ty) (of.alias_at P m a b closed_in s x (own_again name (d.Alias x) q (own refl)) (own_mentions name (d.Alias x) q (own refl)))
-  type_at name (Some (d.Struct x)) q own = ap (λ (t : TypeFound). t.ty) (of.struct_at P m a b closed_in s x (own_again name (d.Struct x) q (own refl)) (own_mentions name (d.Struct x) q (own refl)))
-  type_at name (Some (d.Enum x)) q own = ap (λ (t : TypeFound). t.ty) (of.enum_at P m a b closed_in s x (own_again name (d.Enum x) q (own refl)) (own_mentions name (d.Enum x) q (own refl)))
+  type_at name (Some (d.Alias x)) q own = ap (λ (t : TypeFound). t.ty) (of.alias_at P Q T m a b s x (own_again name (d.Alias x) q (own refl)) (own_mentions name (d.Alias x) q (own refl)))
+  type_at name (Some (d.Struct x)) q own = ap (λ (t : TypeFound). t.ty) (of.struct_at P Q T m a b s x (own_again name (d.Struct x) q (own refl)) (own_mentions name (d.Struct x) q (own refl)))
+  type_at name (Some (d.Enum x)) q own = ap (λ (t : TypeFound). t.ty) (of.enum_at P Q T m a b s x (own_again name (d.Enum x) q (own refl)) (own_mentions name (d.Enum x) q (own refl)))
   type_at name (Some (d.Function f)) q own = refl
   type_at name (Some (d.Proc p)) q own = refl
   type_at name (Some (d.Constant c)) q own = refl
@@ -118,7 +130,7 @@ module _ (P : List ℕ → Bool) (m : Module) (a b : GlobalEnv) (closed_in : IsC
   struct_over known o = and_then (as_struct o) (λ x. (struct_seen known x).ty)
 
   struct_at : (name : List ℕ) (o : Option Definition) → item_named name m.items ≡ o → (is_of_use AsStruct o ≡ true → Own name) → struct_over a o ≡ struct_over b o
-  struct_at name (Some (d.Struct x)) q own = ap (λ (t : TypeFound). t.ty) (of.struct_at P m a b closed_in s x (own_again name (d.Struct x) q (own refl)) (own_mentions name (d.Struct x) q (own refl)))
+  struct_at name (Some (d.Struct x)) q own = ap (λ (t : TypeFound). t.ty) (of.struct_at P Q T m a b s x (own_again name (d.Struct x) q (own refl)) (own_mentions name (d.Struct x) q (own refl)))
   struct_at name (Some (d.Alias x)) q own = refl
   struct_at name (Some (d.Enum x)) q own = refl
   struct_at name (Some (d.Function f)) q own = refl
@@ -130,7 +142,7 @@ module _ (P : List ℕ → Bool) (m : Module) (a b : GlobalEnv) (closed_in : IsC
   member_over member known o = and_then (as_enum o) (λ x. enum_member_value known x member (member_named member x.members))
 
   member_at : (member name : List ℕ) (o : Option Definition) → item_named name m.items ≡ o → (is_of_use AsEnum o ≡ true → Own name) → member_over member a o ≡ member_over member b o
-  member_at member name (Some (d.Enum x)) q own = of.named_member_at P m a b closed_in s x (own_again name (d.Enum x) q (own refl)) (own_mentions name (d.Enum x) q (own refl)) member
+  member_at member name (Some (d.Enum x)) q own = of.named_member_at P Q T m a b s x (own_again name (d.Enum x) q (own refl)) (own_mentions name (d.Enum x) q (own refl)) member
   member_at member name (Some (d.Struct x)) q own = refl
   member_at member name (Some (d.Alias x)) q own = refl
   member_at member name (Some (d.Function f)) q own = refl
@@ -145,7 +157,7 @@ module _ (P : List ℕ → Bool) (m : Module) (a b : GlobalEnv) (closed_in : IsC
   size_over parametric_args known o = size_known known parametric_args (as_function o)
 
   call_at : (given operands : List DslxValue) (name : List ℕ) (o : Option Definition) → item_named name m.items ≡ o → (is_of_use AsFunction o ≡ true → Own name) → call_over given operands a o ≡ call_over given operands b o
-  call_at given operands name (Some (d.Function f)) q own = of.call_at P m a b closed_in s f (own_mentions name (d.Function f) q (own refl)) given operands
+  call_at given operands name (Some (d.Function f)) q own = of.call_at P Q T m a b s f (own_again name (d.Function f) q (own refl)) (own_mentions name (d.Function f) q (own refl)) given operands
   call_at given operands name (Some (d.Enum x)) q own = refl
   call_at given operands name (Some (d.Struct x)) q own = refl
   call_at given operands name (Some (d.Alias x)) q own = refl
@@ -157,10 +169,10 @@ module _ (P : List ℕ → Bool) (m : Module) (a b : GlobalEnv) (closed_in : IsC
   function_alike name f q own =
       let names = plain name f (ap as_function q) in
       let owner = own_again name (d.Function f) q own in
-      let h = of.function_parts P m a b closed_in s f (own_mentions name (d.Function f) q own) in
-      let parametrics = of.plain_alike P m a b closed_in s (parametric_names f.parametrics) names.0 in
+      let h = of.function_parts T m f (own_mentions name (d.Function f) q own) in
+      let parametrics = of.plain_names P Q T m a b s (parametric_names f.parametrics) names.0 in
       record {
-        declared = of.declared_over P m a b closed_in s f (named_again name (d.Function f) q) owner parametrics h.parametrics h.arguments h.result;
+        declared = of.declared_over P Q T m a b s f (named_again name (d.Function f) q) owner parametrics h.parametrics h.arguments h.result;
         size = λ parametric_args. at_item f.name.name (size_over parametric_args) (sized parametric_args);
       }
     where
@@ -171,7 +183,9 @@ module _ (P : List ℕ → Bool) (m : Module) (a b : GlobalEnv) (closed_in : IsC
 
   callee_alike : (name : List ℕ) → (is_of_use AsFunction (item_named name m.items) ≡ true → Own name) → CalleeAlike (globals_over a) (globals_over b) name
   callee_alike name own = record {
-    call = λ given operands. at_item name (call_over given operands) (call_at given operands name (item_named name m.items) refl own);
+    call = λ given operands.
+        (λ i. call_unless (item_reaches (s.known.whole i) name name) (call_over given operands a (item_named name a.whole.items)))
+        ∙ ap (call_unless (item_reaches b.whole name name)) (at_item name (call_over given operands) (call_at given operands name (item_named name m.items) refl own));
     function = λ f e.
         let q : item_named name m.items ≡ Some (d.Function f) = function_is (item_named name m.items) f ((λ i. as_function (item_named name (sym s.text i).items)) ∙ e) in
         function_alike name f q (own (ap (is_of_use AsFunction) q));
@@ -202,21 +216,26 @@ module _ (P : List ℕ → Bool) (m : Module) (a b : GlobalEnv) (closed_in : IsC
   uses_over AsEnum name own = enum_alike name own
   uses_over AsStruct name own = at_item name struct_over (struct_at name (item_named name m.items) refl own)
 
-  -- by longer chains, of instances of what is no proc and mentions such alone
-  pub globals_over_alike : (Q : List ℕ → Bool) → ((name : List ℕ) → Q name ≡ true → Own name × (is_proc_item (item_named name m.items) ≡ false)) → GlobalsAgree Q (globals_over a) (globals_over b)
-  globals_over_alike Q in_q = record {
+  -- by longer chains, of instances of what is no proc and reaches such alone
+  pub globals_over_alike : ((i : Instance) → Own i.name → AllNamed P (found_of_instance a i).reached) → (R : List ℕ → Bool) → ((name : List ℕ) → R name ≡ true → Own name × (is_proc_item (item_named name m.items) ≡ false))
+      → GlobalsAgree R (globals_over a) (globals_over b)
+  globals_over_alike reached R own = record {
     whole = s.known.whole;
     kinds = λ name i. is_constant_item (item_named name (s.known.whole i).items);
     cyclic = λ owner name i. is_cyclic (s.known.whole i) owner name;
-    sound = λ k q. let r = in_q k.name q in of.sound_at P m a b closed_in s k r.0 (found_at k r.0 r.1);
-    unbroken = λ k q. let r = in_q k.name q in of.unbroken_at P m a b closed_in s k r.0 (found_at k r.0 r.1);
+    sound = λ k q. let r = own k.name q in of.sound_at P Q T m a b s k (reached k r.0) (found_at k r.0 r.1);
+    unbroken = λ k q. let r = own k.name q in of.unbroken_at P Q T m a b s k (reached k r.0) (found_at k r.0 r.1);
   }
 
 -- ---- chains of items
 
+-- the test, of what is no proc
+abbrev pub unless_proc : (List ℕ → Bool) → Module → List ℕ → Bool
+unless_proc R m name = R name && not (is_proc_item (item_named name m.items))
+
 -- no proc, from which no chain has more than so many items
 abbrev pub passes : Module → ℕ → List ℕ → Bool
-passes m k name = ends_within m k name && not (is_proc_item (item_named name m.items))
+passes m k = unless_proc (ends_within m k) m
 
 pub and_both : (p q : Bool) → (p && q) ≡ true → (p ≡ true) × (q ≡ true)
 and_both true q e = (refl, e)
@@ -226,7 +245,7 @@ pub not_true : (b : Bool) → not b ≡ true → b ≡ false
 not_true false e = refl
 not_true true e = absurd (true≢false (sym e))
 
-no_proc_use : (u : Use) → IsNoProc u → (o : Option Definition) → is_of_use u o ≡ true → not (is_proc_item o) ≡ true
+pub no_proc_use : (u : Use) → IsNoProc u → (o : Option Definition) → is_of_use u o ≡ true → not (is_proc_item o) ≡ true
 no_proc_use u h (Some (d.Function f)) e = refl
 no_proc_use u h (Some (d.Constant c)) e = refl
 no_proc_use u h (Some (d.Alias x)) e = refl
@@ -241,16 +260,19 @@ no_proc_use AsProc h (Some (d.Proc p)) e = absurd h
 no_proc_use AsEnum h (Some (d.Proc p)) e = absurd (true≢false (sym e))
 no_proc_use AsStruct h (Some (d.Proc p)) e = absurd (true≢false (sym e))
 
-pub names_no_procs : (m : Module) (k : ℕ) (ms : List Mention) → NoProcs ms → list_all (ends_within m k) (names_mentioned m ms) ≡ true → list_all (passes m k) (names_mentioned m ms) ≡ true
-names_no_procs m k [] h e = refl
-names_no_procs m k (x ∷ ms) h e = by_use (is_of_use x.use_as (item_named x.name m.items)) refl e (names_no_procs m k ms h.1)
+pub all_no_procs : (R : List ℕ → Bool) (m : Module) (ms : List Mention) → NoProcs ms → list_all R (names_mentioned m ms) ≡ true → list_all (unless_proc R m) (names_mentioned m ms) ≡ true
+all_no_procs R m [] h e = refl
+all_no_procs R m (x ∷ ms) h e = by_use (is_of_use x.use_as (item_named x.name m.items)) refl e (all_no_procs R m ms h.1)
   where
-    by_use : (b : Bool) → is_of_use x.use_as (item_named x.name m.items) ≡ b → list_all (ends_within m k) (if b then x.name ∷ names_mentioned m ms else names_mentioned m ms) ≡ true
-        → (list_all (ends_within m k) (names_mentioned m ms) ≡ true → list_all (passes m k) (names_mentioned m ms) ≡ true) → list_all (passes m k) (if b then x.name ∷ names_mentioned m ms else names_mentioned m ms) ≡ true
+    by_use : (b : Bool) → is_of_use x.use_as (item_named x.name m.items) ≡ b → list_all R (if b then x.name ∷ names_mentioned m ms else names_mentioned m ms) ≡ true
+        → (list_all R (names_mentioned m ms) ≡ true → list_all (unless_proc R m) (names_mentioned m ms) ≡ true) → list_all (unless_proc R m) (if b then x.name ∷ names_mentioned m ms else names_mentioned m ms) ≡ true
     by_use true q g rest =
-        let r = and_both (ends_within m k x.name) (list_all (ends_within m k) (names_mentioned m ms)) g in
+        let r = and_both (R x.name) (list_all R (names_mentioned m ms)) g in
         λ i. (r.0 i && no_proc_use x.use_as h.0 (item_named x.name m.items) q i) && rest r.1 i
     by_use false q g rest = rest g
+
+pub names_no_procs : (m : Module) (k : ℕ) (ms : List Mention) → NoProcs ms → list_all (ends_within m k) (names_mentioned m ms) ≡ true → list_all (passes m k) (names_mentioned m ms) ≡ true
+names_no_procs m k ms h e = all_no_procs (ends_within m k) m ms h e
 
 -- what isn't a proc mentions none
 type_if_none : (o : Option TypeExpr) (bound : List (List ℕ)) → NoProcs (type_if o bound)
@@ -278,7 +300,7 @@ members_none : (ms : List Member) → NoProcs (members_mentions ms)
 members_none [] = tt
 members_none (x ∷ ms) = no_procs_join (mentioned x.value []) (members_mentions ms) (no_proc_in_expression x.value []) (members_none ms)
 
-definition_none : (x : Definition) → is_proc_item (Some x) ≡ false → NoProcs (definition_mentions x)
+pub definition_none : (x : Definition) → is_proc_item (Some x) ≡ false → NoProcs (definition_mentions x)
 definition_none (d.Function f) e =
     let parametric_args = parametric_names f.parametrics in
     let one = parametrics_mentions f.parametrics [] in
@@ -293,22 +315,22 @@ definition_none (d.Alias x) e = no_proc_in_type x.ty []
 definition_none (d.Struct x) e = fields_none x.fields []
 definition_none (d.Enum x) e = no_procs_join (mentioned_in_type x.base []) (members_mentions x.members) (no_proc_in_type x.base []) (members_none x.members)
 
--- what an item mentions that is no proc, where chains from what it mentions have at most so many items
-mentions_pass : (m : Module) (k : ℕ) (o : Option Definition) → is_proc_item o ≡ false → list_all (ends_within m k) (mentions_of m o) ≡ true → list_all (passes m k) (mentions_of m o) ≡ true
-mentions_pass m k None e h = refl
-mentions_pass m k (Some x) e h = names_no_procs m k (definition_mentions x) (definition_none x e) h
+-- what an item mentions that is no proc
+pub no_procs_mentioned : (R : List ℕ → Bool) (m : Module) (o : Option Definition) → is_proc_item o ≡ false → list_all R (mentions_of m o) ≡ true → list_all (unless_proc R m) (mentions_of m o) ≡ true
+no_procs_mentioned R m None e h = refl
+no_procs_mentioned R m (Some x) e h = all_no_procs R m (definition_mentions x) (definition_none x e) h
 
 pub passes_closed : (m : Module) (k : ℕ) → IsClosed (passes m k) m
 passes_closed m k name h =
     let r = and_both (ends_within m k name) (not (is_proc_item (item_named name m.items))) h in
-    mentions_pass m k (item_named name m.items) (not_true (is_proc_item (item_named name m.items)) r.1) (closed m k name r.0)
+    no_procs_mentioned (ends_within m k) m (item_named name m.items) (not_true (is_proc_item (item_named name m.items)) r.1) (closed m k name r.0)
 
 -- one item more
 pub passes_next : (m : Module) (k : ℕ) (name : List ℕ) → passes m (suc k) name ≡ true → (list_all (passes m k) (mentions_of m (item_named name m.items)) ≡ true) × (is_proc_item (item_named name m.items) ≡ false)
 passes_next m k name h =
     let r = and_both (ends_within m (suc k) name) (not (is_proc_item (item_named name m.items))) h in
     let other = not_true (is_proc_item (item_named name m.items)) r.1 in
-    (mentions_pass m k (item_named name m.items) other r.0, other)
+    (no_procs_mentioned (ends_within m k) m (item_named name m.items) other r.0, other)
 
 -- ---- items of another kind
 
@@ -384,7 +406,9 @@ member_unknown m (suc n) name member e =
 pub call_unknown : (m : Module) (n : ℕ) (name : List ℕ) (given operands : List DslxValue) → is_of_use AsFunction (item_named name m.items) ≡ false → (globals_within m n).items.call name given operands ≡ None
 call_unknown m zero name given operands e = refl
 call_unknown m (suc n) name given operands e =
-    no_item m n name (λ o. and_then (as_function o) (λ f. call_of (globals_within m n).items f given operands)) (call_none (globals_within m n) given operands (item_named name m.items) e)
+    let known = globals_within m n in
+    unless_none (item_reaches known.whole name name) (and_then (as_function (item_named name known.whole.items)) (λ f. call_of known.items f given operands))
+    (no_item m n name (λ o. and_then (as_function o) (λ f. call_of known.items f given operands)) (call_none known given operands (item_named name m.items) e))
 
 pub no_function : (m : Module) (n : ℕ) (name : List ℕ) (f : Function) → is_of_use AsFunction (item_named name m.items) ≡ false → as_function (item_named name (globals_within m n).whole.items) ≡ Some f → true ≡ false
 no_function m n name f e q =
@@ -417,7 +441,7 @@ unused_alike m a b AsEnum name e = record {
 }
 unused_alike m a b AsStruct name e = struct_unknown m a name e ∙ sym (struct_unknown m b name e)
 
-unless_true : (t : Bool) → (t ≡ true → false ≡ true) → not t ≡ true
+pub unless_true : (t : Bool) → (t ≡ true → false ≡ true) → not t ≡ true
 unless_true true h = h refl
 unless_true false h = refl
 
@@ -435,7 +459,7 @@ stage m plain zero a b p q = record {
     unbroken = λ i e. absurd (true≢false (sym e));
   };
   uses = uses_none;
-  reach = λ ms h. den_reach (passes m zero) m (passes_closed m zero) a ms h;
+  reach = λ owner ms h. den_reach (passes m zero) m (passes_closed m zero) a owner ms h;
   reached = λ i h. instances_reach (passes m zero) m (passes_closed m zero) a i h;
 }
   where
@@ -456,51 +480,17 @@ stage m plain (suc k) (suc a) zero p q = absurd (nothing q)
 stage m plain (suc k) (suc a) (suc b) p q =
     let less : k ≤ a = omega (arith, p) in
     let other : k ≤ b = omega (arith, q) in
-    let s = stage m plain k a b less other in
+    let P = passes m k in
+    let stand = stage m plain k a b less other in
+    let s = stage_sight P m (globals_within m a) (globals_within m b) (passes_closed m k) stand in
     record {
       text = whole_is m (suc a);
-      known = globals_over_alike (passes m k) m (globals_within m a) (globals_within m b) (passes_closed m k) s plain (passes m (suc k)) (passes_next m k);
-      uses = λ u name h. uses_over (passes m k) m (globals_within m a) (globals_within m b) (passes_closed m k) s plain u name (λ e. (passes_next m k name (h e)).0);
-      reach = λ ms h. den_reach (passes m (suc k)) m (passes_closed m (suc k)) (suc a) ms h;
+      known = globals_over_alike P (mentions_pass P m) (λ owner. P) m (globals_within m a) (globals_within m b) s (λ name q. q) plain stand.reached (passes m (suc k)) (passes_next m k);
+      uses = λ u name h. uses_over P (mentions_pass P m) (λ owner. P) m (globals_within m a) (globals_within m b) s (λ name q. q) plain u name (λ e. (passes_next m k name (h e)).0);
+      reach = λ owner ms h. den_reach (passes m (suc k)) m (passes_closed m (suc k)) (suc a) owner ms h;
       reached = λ i h. instances_reach (passes m (suc k)) m (passes_closed m (suc k)) (suc a) i h;
     }
 
 -- each item that is no proc passes where chains have at most as many items as there are
 pub every_item_passes : (m : Module) → HasNoCycle m → (name : List ℕ) (x : Definition) → item_named name m.items ≡ Some x → is_proc_item (Some x) ≡ false → passes m (length m.items) name ≡ true
 every_item_passes m free name x q other = (λ i. every_item m free name x q i && not (is_proc_item (q i))) ∙ ap not other
-
-use_passes : (m : Module) → HasNoCycle m → (u : Use) → IsNoProc u → (name : List ℕ) → is_of_use u (item_named name m.items) ≡ true → passes m (length m.items) name ≡ true
-use_passes m free u h name e = by_item (item_named name m.items) refl e
-  where
-    nothing : (u : Use) → is_of_use u None ≡ false
-    nothing AsValue = refl
-    nothing AsPattern = refl
-    nothing AsType = refl
-    nothing AsFunction = refl
-    nothing AsProc = refl
-    nothing AsEnum = refl
-    nothing AsStruct = refl
-
-    by_item : (o : Option Definition) → item_named name m.items ≡ o → is_of_use u o ≡ true → passes m (length m.items) name ≡ true
-    by_item None q k = absurd (true≢false (sym k ∙ nothing u))
-    by_item (Some x) q k = every_item_passes m free name x q (not_true (is_proc_item (Some x)) (no_proc_use u h (Some x) k))
-
-pub uses_settle : (m : Module) → HasNoCycle m → BindsNoConstant m → (a b : ℕ) → length m.items ≤ a → length m.items ≤ b → (u : Use) (name : List ℕ) → UseAlike (globals_within m a) (globals_within m b) u name
-uses_settle m free plain a b p q u name = by_use u
-  where
-    by_use : (u : Use) → UseAlike (globals_within m a) (globals_within m b) u name
-    by_use AsValue = (stage m plain (length m.items) a b p q).uses AsValue name (use_passes m free AsValue tt name)
-    by_use AsPattern = (stage m plain (length m.items) a b p q).uses AsPattern name (use_passes m free AsPattern tt name)
-    by_use AsType = (stage m plain (length m.items) a b p q).uses AsType name (use_passes m free AsType tt name)
-    by_use AsFunction = (stage m plain (length m.items) a b p q).uses AsFunction name (use_passes m free AsFunction tt name)
-    by_use AsProc = tt
-    by_use AsEnum = (stage m plain (length m.items) a b p q).uses AsEnum name (use_passes m free AsEnum tt name)
-    by_use AsStruct = (stage m plain (length m.items) a b p q).uses AsStruct name (use_passes m free AsStruct tt name)
-
-pub instances_settle : (m : Module) → HasNoCycle m → BindsNoConstant m → (a b : ℕ) → length m.items ≤ a → length m.items ≤ b → (i : Instance) (f : Function) → as_function (item_named i.name m.items) ≡ Some f
-    → ((globals_within m a).is_sound i ≡ (globals_within m b).is_sound i) × ((globals_within m a).is_unbroken i ≡ (globals_within m b).is_unbroken i)
-instances_settle m free plain a b p q i f e =
-    let named = function_is (item_named i.name m.items) f e in
-    let here = every_item_passes m free i.name (d.Function f) named refl in
-    let s = stage m plain (length m.items) a b p q in
-    (s.known.sound i here, s.known.unbroken i here)

@@ -1,5 +1,5 @@
 -- One item more on chains: what is known of it, where all that it mentions is known.
-use Rattle.std.proofs.Common.{◌≡◌, ◌&&◌, ◌≤◌, ℕ, suc, Bool, true, false, not, List, [], ◌∷◌, map, length, Option, Some, None, arith, refl, sym, ap, subst, ◌∙◌}
+use Rattle.std.proofs.Common.{◌*◌, ◌≡◌, ◌&&◌, ◌≤◌, ℕ, suc, Bool, true, false, not, List, [], ◌∷◌, map, length, Option, Some, None, arith, refl, sym, ap, subst, ◌∙◌}
 use mathlib.Core.Bool.{true≢false}
 use Rattle.std.specs.List.{list_all}
 use Rattle.dslx_tree.specs.declared.item.Alias.{Alias}
@@ -34,7 +34,7 @@ use Rattle.dslx_core.proofs.Lemmas.Typing.TypingRelations.{item_so_named, items_
 use Rattle.dslx_core.specs.Typing.Depends.Alike.{UseAlike}
 use Rattle.dslx_core.specs.Typing.Depends.Settled.{BindsNoConstant}
 use Rattle.dslx_core.proofs.Lemmas.Typing.Depends as of
-use Rattle.dslx_core.proofs.Lemmas.Typing.Depends.{Stage, all_alike, passes, passes_closed, passes_next, uses_settle}
+use Rattle.dslx_core.proofs.Lemmas.Typing.Depends.{all_alike, passes, passes_closed, passes_next, uses_settle}
 use Rattle.dslx_core.specs.Typing.Complete.HasValue.{AliasHasType, AreTyped, ConstantHasValue, EnumHasType, IsWellTypedFound, StructHasType}
 use Rattle.dslx_core.proofs.Lemmas.Typing.Complete.{alias_has_type, constant_has_value, enum_has_type, struct_has_type}
 use Rattle.dslx_core.specs.Typing.GlobalEnv.Filled.{filled, filler_struct, filler_type}
@@ -42,7 +42,7 @@ use Rattle.dslx_core.specs.Typing.GlobalEnv.WellTypedParts.{EachItemWellTyped}
 use Rattle.dslx_core.specs.Typing.GlobalEnv.Passing.{PassingHaveValues}
 use Rattle.dslx_core.proofs.OnTyping.OnGlobals.Declaring.{DeclareNames, declared_by_both, named_enum, named_struct}
 use Rattle.dslx_core.proofs.OnTyping.OnGlobals.Filling.{filled_complete, filled_typed}
-use Rattle.dslx_core.proofs.OnTyping.OnGlobals.OnFilled.{other, pass, stage_filled}
+use Rattle.dslx_core.proofs.OnTyping.OnGlobals.OnFilled.{other, pass, sight_filled, stage_filled}
 
 pub constant_item : (o : Option Definition) → is_constant_item o ≡ true → (c : Constant) × (o ≡ Some (d.Constant c))
 constant_item (Some (d.Constant c)) e = (c, refl)
@@ -133,23 +133,23 @@ module _ (m : Module) (free : HasNoCycle m) (plain : BindsNoConstant m) (well_ty
   Own owner = list_all P (mentions_of m (item_named owner m.items)) ≡ true
 
   pub text : K.whole ≡ m
-  text = whole_is m (length m.items)
+  text = whole_is m (2 * length m.items)
 
   own : (name : List ℕ) → Q name ≡ true → Own name
   own name q = (passes_next m k name q).0
 
   own_of : (name : List ℕ) (x : Definition) → item_named name m.items ≡ Some x → Q name ≡ true → Own (name_of_definition x)
-  own_of name x e q = of.own_again P m K (F 1) (passes_closed m k) (stage_filled m 1 k) plain name x e (own name q)
+  own_of name x e q = of.own_again P (of.mentions_pass P m) (λ owner. P) m K (F 1) (sight_filled m 1 k) (λ z g. g) plain name x e (own name q)
 
   pub mentions : (name : List ℕ) (x : Definition) → item_named name m.items ≡ Some x → Q name ≡ true → list_all P (names_mentioned m (definition_mentions x)) ≡ true
-  mentions name x e q = of.own_mentions P m K (F 1) (passes_closed m k) (stage_filled m 1 k) plain name x e (own name q)
+  mentions name x e q = of.own_mentions P (of.mentions_pass P m) (λ owner. P) m K (F 1) (sight_filled m 1 k) (λ z g. g) plain name x e (own name q)
 
   -- longer chains say the same
   pub settle : (u : Use) (name : List ℕ) → UseAlike K (globals_over K) u name
   settle u name =
-      let same : length m.items ≤ length m.items = omega arith in
-      let more : length m.items ≤ suc (length m.items) = omega arith in
-      uses_settle m free plain (length m.items) (suc (length m.items)) same more u name
+      let same : 2 * length m.items ≤ 2 * length m.items = omega arith in
+      let more : 2 * length m.items ≤ suc (2 * length m.items) = omega arith in
+      uses_settle m plain (2 * length m.items) (suc (2 * length m.items)) same more u name
 
   pub named : (name : List ℕ) (x : Definition) → item_named name m.items ≡ Some x → item_named name K.whole.items ≡ Some x
   named name x e = (λ i. item_named name (text i).items) ∙ e
@@ -163,20 +163,20 @@ module _ (m : Module) (free : HasNoCycle m) (plain : BindsNoConstant m) (well_ty
       let f = well_typed name x e in
       subst (IsWellTypedFound (F w)) same (record {
         faults = f.faults;
-        reached = sym (all_alike P K.is_sound (F w).is_sound (stage_filled m w k).known.sound (item_found K x).reached (items_reach P m (passes_closed m k) (length m.items) x (mentions name x e q))) ∙ f.reached;
+        reached = sym (all_alike P K.is_sound (F w).is_sound (stage_filled m w k).known.sound (item_found K x).reached (items_reach P m (passes_closed m k) (2 * length m.items) x (mentions name x e q))) ∙ f.reached;
       })
 
   alias_same : (w : ℕ) (name : List ℕ) (x : Alias) → item_named name m.items ≡ Some (d.Alias x) → Q name ≡ true → alias_seen K x ≡ alias_seen (F w) x
-  alias_same w name x e q = of.alias_at P m K (F w) (passes_closed m k) (stage_filled m w k) x (own_of name (d.Alias x) e q) (mentions name (d.Alias x) e q)
+  alias_same w name x e q = of.alias_at P (of.mentions_pass P m) (λ owner. P) m K (F w) (sight_filled m w k) x (own_of name (d.Alias x) e q) (mentions name (d.Alias x) e q)
 
   struct_same : (w : ℕ) (name : List ℕ) (x : StructItem) → item_named name m.items ≡ Some (d.Struct x) → Q name ≡ true → struct_seen K x ≡ struct_seen (F w) x
-  struct_same w name x e q = of.struct_at P m K (F w) (passes_closed m k) (stage_filled m w k) x (own_of name (d.Struct x) e q) (mentions name (d.Struct x) e q)
+  struct_same w name x e q = of.struct_at P (of.mentions_pass P m) (λ owner. P) m K (F w) (sight_filled m w k) x (own_of name (d.Struct x) e q) (mentions name (d.Struct x) e q)
 
   enum_same : (w : ℕ) (name : List ℕ) (x : Enum) → item_named name m.items ≡ Some (d.Enum x) → Q name ≡ true → enum_seen K x ≡ enum_seen (F w) x
-  enum_same w name x e q = of.enum_at P m K (F w) (passes_closed m k) (stage_filled m w k) x (own_of name (d.Enum x) e q) (mentions name (d.Enum x) e q)
+  enum_same w name x e q = of.enum_at P (of.mentions_pass P m) (λ owner. P) m K (F w) (sight_filled m w k) x (own_of name (d.Enum x) e q) (mentions name (d.Enum x) e q)
 
   constant_same : (w : ℕ) (name : List ℕ) (x : Constant) → item_named name m.items ≡ Some (d.Constant x) → Q name ≡ true → constant_seen K x ≡ constant_seen (F w) x
-  constant_same w name x e q = of.constant_item_at P m K (F w) (passes_closed m k) (stage_filled m w k) x (own_of name (d.Constant x) e q) (mentions name (d.Constant x) e q)
+  constant_same w name x e q = of.constant_item_at P (of.mentions_pass P m) (λ owner. P) m K (F w) (sight_filled m w k) x (own_of name (d.Constant x) e q) (mentions name (d.Constant x) e q)
 
   alias_of : (w : ℕ) (name : List ℕ) (x : Alias) → item_named name m.items ≡ Some (d.Alias x) → Q name ≡ true → AliasHasType (F w) x
   alias_of w name x e q = alias_has_type (F w) (complete w) (typed w) x (well_typed_filled w name (d.Alias x) e q (ap (λ (t : TypeFound). t.found) (alias_same w name x e q)))
@@ -271,7 +271,7 @@ module _ (m : Module) (free : HasNoCycle m) (plain : BindsNoConstant m) (well_ty
   declared_next w name t q e = by_item (item_named name m.items) refl
     where
       no_type : is_of_use AsType (item_named name m.items) ≡ false → IsDeclared (next w) t
-      no_type u = none_some t (sym (of.type_unknown m (length m.items) name u) ∙ e)
+      no_type u = none_some t (sym (of.type_unknown m (2 * length m.items) name u) ∙ e)
 
       by_item : (o : Option Definition) → item_named name m.items ≡ o → IsDeclared (next w) t
       by_item (Some (d.Alias x)) r =
@@ -312,7 +312,7 @@ module _ (m : Module) (free : HasNoCycle m) (plain : BindsNoConstant m) (well_ty
   parts_next w name own fields ts q e = by_item (item_named name m.items) refl
     where
       no_type : is_of_use AsType (item_named name m.items) ≡ false → AllDeclared (next w) ts
-      no_type u = none_some (ty.Struct own fields ts) (sym (of.type_unknown m (length m.items) name u) ∙ e)
+      no_type u = none_some (ty.Struct own fields ts) (sym (of.type_unknown m (2 * length m.items) name u) ∙ e)
 
       by_item : (o : Option Definition) → item_named name m.items ≡ o → AllDeclared (next w) ts
       by_item (Some (d.Alias x)) r =
@@ -359,7 +359,7 @@ module _ (m : Module) (free : HasNoCycle m) (plain : BindsNoConstant m) (well_ty
       record {
         value = there.value;
         is = (settle AsEnum name).members member ∙ ap (λ o. and_then (as_enum o) (λ y. enum_member_value K y member (member_named member y.members))) (named name (d.Enum x) e)
-            ∙ of.named_member_at P m K (F 1) (passes_closed m k) (stage_filled m 1 k) x (own_of name (d.Enum x) e q) (mentions name (d.Enum x) e q) member
+            ∙ of.named_member_at P (of.mentions_pass P m) (λ owner. P) m K (F 1) (sight_filled m 1 k) x (own_of name (d.Enum x) e q) (mentions name (d.Enum x) e q) member
             ∙ there.is;
         of = subst (λ u. is_of u there.value ≡ true) is there.of;
         declared = declared_next w name t q z;

@@ -1,5 +1,5 @@
 -- One function more on chains: what is known of it, where all that it mentions is known.
-use Rattle.std.proofs.Common.{◌≡◌, ◌≤◌, ℕ, suc, Bool, true, false, if◌then◌else◌, List, [], ◌∷◌, ◌++◌, map, length, Option, Some, None, arith, refl, sym, ap, subst, ◌∙◌}
+use Rattle.std.proofs.Common.{◌*◌, ◌≡◌, ◌≤◌, ℕ, suc, Bool, true, false, if◌then◌else◌, List, [], ◌∷◌, ◌++◌, map, length, Option, Some, None, arith, refl, sym, ap, subst, ◌∙◌}
 use mathlib.Core.Bool.{true≢false}
 use Rattle.std.specs.List.{list_all}
 use Rattle.dslx_tree.specs.declared.expr.Expr.{Expr}
@@ -22,10 +22,11 @@ use Rattle.dslx_meaning.specs.Rules.TypeRules.{unless_unit}
 use Rattle.dslx_meaning.specs.Rules.ConstantRules.{is_empty}
 use Rattle.dslx_meaning.specs.Rules.ItemRules.{arguments_found, body_typing, arguments_typed, function_seen, function_type_env, item_type_env, typing_of_inner, typing_of_type, parametrics_found, result_typing}
 use Rattle.dslx_meaning.specs.Rules.TypeEnvs.{DefaultSeen, Instance, Judgement, GlobalEnv, Signature}
-use Rattle.dslx_meaning.specs.Rules.Mentions.{AsFunction, Mention, expr_if, mentioned, mentioned_in_type, names_mentioned, parametrics_mentions}
+use Rattle.dslx_meaning.specs.Rules.Mentions.{AsFunction, Mention, expr_if, item_reaches, mentioned, mentioned_in_type, names_mentioned, parametrics_mentions}
 use Rattle.dslx_meaning.specs.Rules.ModuleRules.{declared_type, default_if, default_known, found_of_instance, found_of_item, globals_of, globals_over, signature_of, size_known, sound_instance}
 use Rattle.dslx_meaning.specs.Rules.NameRules.{local_name}
 use Rattle.dslx_core.specs.Typing.Laws.Recursion.{HasNoCycle}
+use Rattle.dslx_core.proofs.Lemmas.Typing.Laws.Chains.{never_loops}
 use Rattle.dslx_core.proofs.Lemmas.Typing.Laws.{AllGiven, given_agree, given_here, given_more, parametric_args_one, value_depends, written_type_depends}
 use Rattle.dslx_core.specs.Typing.Typed.Complete.{EachArgumentDeclared, EachParametricKnown, FitArguments, IsCallable, IsComplete, IsDefaultKnown, IsWellTypedPart, IsFunctionKnown, IsParametricKnown, signature_at}
 use Rattle.dslx_core.specs.Typing.Typed.Declared.{Declarations, IsDeclared}
@@ -39,14 +40,14 @@ use Rattle.dslx_core.proofs.Lemmas.Typing.TypingRelations.{all_weaker, default_r
 use Rattle.dslx_core.specs.Typing.Depends.Alike.{CalleeAlike, DeclaredAlike, FunctionAlike}
 use Rattle.dslx_core.specs.Typing.Depends.Settled.{BindsNoConstant}
 use Rattle.dslx_core.proofs.Lemmas.Typing.Depends as of
-use Rattle.dslx_core.proofs.Lemmas.Typing.Depends.{all_alike, den_parts, passes, passes_closed, passes_next}
+use Rattle.dslx_core.proofs.Lemmas.Typing.Depends.{all_alike, call_unless, den_parts, passes, passes_closed, passes_next}
 use Rattle.dslx_core.specs.Typing.Complete.HasValue.{AreTyped, IsWellTypedFound, ParametricHasValue}
 use Rattle.dslx_core.proofs.Lemmas.Typing.Complete.{inner_globals, instance_has_value, none_own, parametric_has_value}
 use Rattle.dslx_core.specs.Typing.GlobalEnv.Filled.{filled}
 use Rattle.dslx_core.specs.Typing.GlobalEnv.WellTypedParts.{EachItemWellTyped}
 use Rattle.dslx_core.specs.Typing.GlobalEnv.Passing.{PassingHaveValues}
 use Rattle.dslx_core.proofs.OnTyping.OnGlobals.Next as of_next
-use Rattle.dslx_core.proofs.OnTyping.OnGlobals.OnFilled.{stage_filled}
+use Rattle.dslx_core.proofs.OnTyping.OnGlobals.OnFilled.{sight_filled, stage_filled}
 
 module _ (m : Module) (free : HasNoCycle m) (plain : BindsNoConstant m) (well_typed : EachItemWellTyped m) (k : ℕ) (stand : (w : ℕ) → PassingHaveValues w (passes m k) (globals_of m))
     (G : GlobalEnv) (s : of.Stage (passes m (suc k)) m (globals_of m) G)
@@ -91,26 +92,26 @@ module _ (m : Module) (free : HasNoCycle m) (plain : BindsNoConstant m) (well_ty
   named : item_named name K.whole.items ≡ Some (d.Function f)
   named = of_next.named m free plain well_typed k stand name (d.Function f) is
 
-  parts : of.FunctionParts P m K (F 1) (passes_closed m k) (stage_filled m 1 k) f
-  parts = of.function_parts P m K (F 1) (passes_closed m k) (stage_filled m 1 k) f (of_next.mentions m free plain well_typed k stand name (d.Function f) is q)
+  parts : of.FunctionParts (λ owner. P) m f
+  parts = of.function_parts (λ owner. P) m f (of_next.mentions m free plain well_typed k stand name (d.Function f) is q)
 
   -- what longer chains say, and what they say over either
   long : FunctionAlike K (globals_over K) f
   long = (of_next.settle m free plain well_typed k stand AsFunction name).function f (ap as_function named)
 
   over : (v : ℕ) → CalleeAlike (globals_over K) (globals_over (F v)) name
-  over v = of.uses_over P m K (F v) (passes_closed m k) (stage_filled m v k) plain AsFunction name (λ e. (passes_next m k name q).0)
+  over v = of.uses_over P (of.mentions_pass P m) (λ owner. P) m K (F v) (sight_filled m v k) (λ z g. g) plain AsFunction name (λ e. (passes_next m k name q).0)
 
   short : (v : ℕ) → FunctionAlike (globals_over K) (globals_over (F v)) f
   short v = (over v).function f (ap as_function named)
 
   sound : (v : ℕ) (i : Instance) → Q i.name ≡ true → sound_instance K i ≡ sound_instance (F v) i
-  sound v i e = (of.globals_over_alike P m K (F v) (passes_closed m k) (stage_filled m v k) plain Q (passes_next m k)).sound i e
+  sound v i e = (of.globals_over_alike P (of.mentions_pass P m) (λ owner. P) m K (F v) (sight_filled m v k) (λ z g. g) plain (stage_filled m v k).reached Q (passes_next m k)).sound i e
 
   -- ---- types and defaults of parametrics
 
   owner_named : item_named owner m.items ≡ Some (d.Function f)
-  owner_named = of.named_again P m K (F 1) (passes_closed m k) (stage_filled m 1 k) plain name (d.Function f) is
+  owner_named = of.named_again P (of.mentions_pass P m) (λ owner. P) m K (F 1) (sight_filled m 1 k) (λ z g. g) plain name (d.Function f) is
 
   named_own : item_named owner K.whole.items ≡ Some (d.Function f)
   named_own = of_next.named m free plain well_typed k stand owner (d.Function f) owner_named
@@ -194,10 +195,10 @@ module _ (m : Module) (free : HasNoCycle m) (plain : BindsNoConstant m) (well_ty
       )
 
   type_reached : (names : List (List ℕ)) (so_far : List Given) (t : TypeExpr) → ExprDen (mentioned_in_type t names) → AllNamed P (typing_of_inner (item_type_env K owner so_far) t).reached
-  type_reached names so_far t h = written_type_reaches P t names (item_type_env K owner so_far) ((stage_filled m 1 k).reach (mentioned_in_type t names) h)
+  type_reached names so_far t h = written_type_reaches P t names (item_type_env K owner so_far) ((stage_filled m 1 k).reach owner (mentioned_in_type t names) h)
 
   default_reached_of : (names : List (List ℕ)) (p : Parametric) → ExprDen (expr_if p.default names) → (so_far : List Given) (x : Expr) → p.default ≡ Some x → AllNamed P (default_known (item_type_env K owner so_far) x).judgement.reached
-  default_reached_of names p h so_far x e = default_reached P K p.default names ((stage_filled m 1 k).reach (expr_if p.default names) h) (item_type_env K owner so_far) refl x e
+  default_reached_of names p h so_far x e = default_reached P (item_type_env K owner so_far) p.default names ((stage_filled m 1 k).reach owner (expr_if p.default names) h) x e
 
   default_both : (seen one two : DefaultSeen) → seen ≡ one → seen ≡ two → IsDefaultKnown (types 1) one → IsDefaultKnown (types 2) two → IsDefaultKnown next seen
   default_both seen one two x y a b =
@@ -361,9 +362,9 @@ module _ (m : Module) (free : HasNoCycle m) (plain : BindsNoConstant m) (well_ty
 
   sound_here : (parametric_args : List DslxValue) → G.is_sound (instance_of parametric_args) ≡ true → sound_instance K (instance_of parametric_args) ≡ true
   sound_here parametric_args e =
-      let same : length m.items ≤ length m.items = omega arith in
-      let longer : length m.items ≤ suc (length m.items) = omega arith in
-      sym (of.instances_settle m free plain (length m.items) (suc (length m.items)) same longer (instance_of parametric_args) f (ap as_function owner_named)).0
+      let same : 2 * length m.items ≤ 2 * length m.items = omega arith in
+      let longer : 2 * length m.items ≤ suc (2 * length m.items) = omega arith in
+      sym (of.instances_settle m plain (2 * length m.items) (suc (2 * length m.items)) same longer (instance_of parametric_args) f (ap as_function owner_named)).0
       ∙ s.known.sound (instance_of parametric_args) owner_in ∙ e
 
   instance_well_typed : (v : ℕ) (parametric_args : List DslxValue) → G.is_sound (instance_of parametric_args) ≡ true → IsWellTypedFound (F v) (function_seen (F v) f parametric_args).found
@@ -387,6 +388,9 @@ module _ (m : Module) (free : HasNoCycle m) (plain : BindsNoConstant m) (well_ty
       let r = all_in (F 1).is_sound arguments.reached (result.reached ++ body.reached) p.1 in
       record { faults = b.0; reached = r.0 }
 
+  loops : item_reaches K.whole name name ≡ false
+  loops = (λ i. item_reaches (of_next.text m free plain well_typed k stand i) name name) ∙ never_loops m free name
+
   -- a call is of the instance
   call_is : (parametric_args given operands : List DslxValue) → G.is_sound (instance_of parametric_args) ≡ true → all_parametric_args G.items (inferred_from f.arguments (map type_of_value operands)) [] f.parametrics given ≡ Some parametric_args
       → G.items.call name given operands ≡ function_value (F 1).items f parametric_args operands
@@ -398,6 +402,7 @@ module _ (m : Module) (free : HasNoCycle m) (plain : BindsNoConstant m) (well_ty
       sym ((s.uses AsFunction name (λ e. q)).call given operands)
       ∙ (of_next.settle m free plain well_typed k stand AsFunction name).call given operands
       ∙ (over 1).call given operands
+      ∙ ap (λ loops. call_unless loops (and_then (as_function (item_named name K.whole.items)) (λ g. call_of (F 1).items g given operands))) loops
       ∙ ap (λ o. and_then (as_function o) (λ g. call_of (F 1).items g given operands)) named
       ∙ ap (λ o. and_then o (λ ns. function_value (F 1).items f ns operands)) (sym one ∙ two ∙ h)
 

@@ -1,5 +1,5 @@
 -- Of items whose names pass, the same is known with something else in the place of all others.
-use Rattle.std.proofs.Common.{◌≡◌, ◌&&◌, ℕ, Bool, true, false, if◌then◌else◌, List, length, Option, Some, None, refl, sym, ap, ◌∙◌}
+use Rattle.std.proofs.Common.{◌*◌, ◌≡◌, ◌&&◌, ℕ, Bool, true, false, if◌then◌else◌, List, length, Option, Some, None, refl, sym, ap, ◌∙◌}
 use mathlib.Core.Bool.{true≢false}
 use Rattle.dslx_tree.specs.declared.item.Definition.{Definition}
 use Rattle.dslx_tree.specs.declared.item.Definition.TheVariants as d
@@ -11,7 +11,7 @@ use Rattle.dslx_meaning.specs.Rules.Mentions.{Use, AsValue, AsPattern, AsType, A
 use Rattle.dslx_meaning.specs.Rules.ModuleRules.{globals_of}
 use Rattle.dslx_core.proofs.Lemmas.Typing.TypingRelations.{function_is, instances_reach, item_so_named, den_reach, whole_is}
 use Rattle.dslx_core.specs.Typing.Depends.Alike.{FunctionAlike, UseAlike}
-use Rattle.dslx_core.proofs.Lemmas.Typing.Depends.{Stage, call_unknown, constant_unknown, member_unknown, no_enum, no_function, passes, passes_closed, pattern_use, struct_unknown, type_unknown}
+use Rattle.dslx_core.proofs.Lemmas.Typing.Depends.{Sight, Stage, call_unknown, constant_unknown, member_unknown, mentions_pass, no_enum, no_function, passes, passes_closed, pattern_use, stage_sight, struct_unknown, type_unknown}
 use Rattle.dslx_core.specs.Typing.GlobalEnv.Filled.{constant_filler, filled, filler_type, member_filler, nothing_typed, refused, struct_filler}
 
 -- what is known where a name passes, and what is filled in where it doesn't
@@ -71,7 +71,7 @@ module _ (m : Module) (w k : ℕ) where
   item_of name = item_named name K.whole.items
 
   text : K.whole ≡ m
-  text = whole_is m (length m.items)
+  text = whole_is m (2 * length m.items)
 
   abbrev nothing_seen : DefaultSeen
   nothing_seen = record { judgement = refused; value = None }
@@ -106,25 +106,25 @@ module _ (m : Module) (w k : ℕ) where
 
   no_value : (name : List ℕ) → P name ≡ false → is_of_use AsValue (item_named name m.items) ≡ false → K.items.constant name ≡ F.items.constant name
   no_value name p e =
-      constant_unknown m (length m.items) name e ∙ sym (other (P name) (K.items.constant name) (constant_filler w (item_of name)) p ∙ constant_none w (item_of name) (here AsValue name e))
+      constant_unknown m (2 * length m.items) name e ∙ sym (other (P name) (K.items.constant name) (constant_filler w (item_of name)) p ∙ constant_none w (item_of name) (here AsValue name e))
 
   unused : (u : Use) (name : List ℕ) → P name ≡ false → is_of_use u (item_named name m.items) ≡ false → UseAlike K F u name
   unused AsValue name p e = no_value name p e
   unused AsPattern name p e = no_value name p (sym (pattern_use (item_named name m.items)) ∙ e)
   unused AsType name p e =
-      type_unknown m (length m.items) name e ∙ sym (other (P name) (K.items.type_named name) (filler_type w (item_of name)) p ∙ type_none w (item_of name) (here AsType name e))
+      type_unknown m (2 * length m.items) name e ∙ sym (other (P name) (K.items.type_named name) (filler_type w (item_of name)) p ∙ type_none w (item_of name) (here AsType name e))
   unused AsFunction name p e = record {
-    call = λ parametric_args operands. call_unknown m (length m.items) name parametric_args operands e ∙ sym (other (P name) (K.items.call name parametric_args operands) None p);
-    function = λ f q. absurd (true≢false (no_function m (length m.items) name f e q));
+    call = λ parametric_args operands. call_unknown m (2 * length m.items) name parametric_args operands e ∙ sym (other (P name) (K.items.call name parametric_args operands) None p);
+    function = λ f q. absurd (true≢false (no_function m (2 * length m.items) name f e q));
   }
   unused AsProc name p e = tt
   unused AsEnum name p e = record {
     ty = λ x q. absurd (true≢false (no_enum (item_of name) (here AsEnum name e) q));
-    members = λ member. member_unknown m (length m.items) name member e
+    members = λ member. member_unknown m (2 * length m.items) name member e
         ∙ sym (other (P name) (K.items.member name member) (member_filler w (item_of name)) p ∙ member_none w (item_of name) (here AsEnum name e));
   }
   unused AsStruct name p e =
-      struct_unknown m (length m.items) name e ∙ sym (other (P name) (K.items.struct_named name) (struct_filler w (item_of name)) p ∙ struct_none w (item_of name) (here AsStruct name e))
+      struct_unknown m (2 * length m.items) name e ∙ sym (other (P name) (K.items.struct_named name) (struct_filler w (item_of name)) p ∙ struct_none w (item_of name) (here AsStruct name e))
 
   each_use : (u : Use) (name : List ℕ) → (is_of_use u (item_named name m.items) ≡ true → P name ≡ true) → UseAlike K F u name
   each_use u name h = by_test (P name) refl (is_of_use u (item_named name m.items)) refl
@@ -145,6 +145,9 @@ module _ (m : Module) (w k : ℕ) where
       unbroken = λ i e. λ j. (sym e j) && K.is_unbroken i;
     };
     uses = each_use;
-    reach = λ ms h. den_reach P m (passes_closed m k) (length m.items) ms h;
-    reached = λ i h. instances_reach P m (passes_closed m k) (length m.items) i h;
+    reach = λ owner ms h. den_reach P m (passes_closed m k) (2 * length m.items) owner ms h;
+    reached = λ i h. instances_reach P m (passes_closed m k) (2 * length m.items) i h;
   }
+
+  pub sight_filled : Sight P (mentions_pass P m) (λ owner. P) m K F
+  sight_filled = stage_sight P m K F (passes_closed m k) stage_filled

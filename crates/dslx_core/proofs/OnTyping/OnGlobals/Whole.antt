@@ -1,5 +1,5 @@
 -- All items of a text are known: the induction on chains of items.
-use Rattle.std.proofs.Common.{◌≡◌, ℕ, zero, suc, Bool, true, false, List, [], ◌∷◌, length, Option, Some, None, refl, sym, ap, subst, ◌∙◌}
+use Rattle.std.proofs.Common.{◌*◌, ◌≡◌, ℕ, zero, suc, Bool, true, false, List, [], ◌∷◌, length, Option, Some, None, refl, sym, ap, subst, ◌∙◌}
 use mathlib.Core.Bool.{true≢false}
 use Rattle.dslx_tree.specs.declared.item.Definition.{Definition}
 use Rattle.dslx_tree.specs.declared.item.Definition.TheVariants as d
@@ -46,7 +46,7 @@ module _ (m : Module) (free : HasNoCycle m) (plain : BindsNoConstant m) (well_ty
   K = globals_of m
 
   text : K.whole ≡ m
-  text = whole_is m (length m.items)
+  text = whole_is m (2 * length m.items)
 
   at_text : {X : Type 0} (name : List ℕ) (g : Option Definition → X) → g (item_named name m.items) ≡ g (item_named name K.whole.items)
   at_text name g = λ i. g (item_named name (sym text i).items)
@@ -59,8 +59,8 @@ module _ (m : Module) (free : HasNoCycle m) (plain : BindsNoConstant m) (well_ty
 
   first : (w : ℕ) → PassingHaveValues w (passes m zero) K
   first w = record {
-    kinds = λ name. kind (length m.items) name ∙ at_text name is_constant_item;
-    others = λ name e. of.constant_unknown m (length m.items) name (no_constant_use (item_named name m.items) (at_text name is_constant_item ∙ e));
+    kinds = λ name. kind (2 * length m.items) name ∙ at_text name is_constant_item;
+    others = λ name e. of.constant_unknown m (2 * length m.items) name (no_constant_use (item_named name m.items) (at_text name is_constant_item ∙ e));
     constants = λ name p c. absurd (true≢false (sym p));
     types = λ name p u. absurd (true≢false (sym p));
     declared = λ name t p e. absurd (true≢false (sym p));
@@ -125,7 +125,7 @@ module _ (m : Module) (free : HasNoCycle m) (plain : BindsNoConstant m) (well_ty
     where
       by_use : (b : Bool) → is_of_use AsType (item_named name m.items) ≡ b → P name ≡ true
       by_use true u = type_passes name u
-      by_use false u = none_some t (sym (of.type_unknown m (length m.items) name u) ∙ e)
+      by_use false u = none_some t (sym (of.type_unknown m (2 * length m.items) name u) ∙ e)
 
   filler_use : (o : Option Definition) (t : DslxType) → filler_type 1 o ≡ Some t → is_of_use AsType o ≡ true
   filler_use (Some (d.Alias x)) t e = refl
@@ -170,8 +170,8 @@ module _ (m : Module) (free : HasNoCycle m) (plain : BindsNoConstant m) (well_ty
     text = text;
     known = record { whole = refl; kinds = λ name. refl; cyclic = λ owner name. refl; sound = λ i e. refl; unbroken = λ i e. refl };
     uses = λ u name h. one_use u name;
-    reach = λ ms h. den_reach (passes m k) m (passes_closed m k) (length m.items) ms h;
-    reached = λ i h. instances_reach (passes m k) m (passes_closed m k) (length m.items) i h;
+    reach = λ owner ms h. den_reach (passes m k) m (passes_closed m k) (2 * length m.items) owner ms h;
+    reached = λ i h. instances_reach (passes m k) m (passes_closed m k) (2 * length m.items) i h;
   }
 
   pub all_known : IsComplete K
@@ -210,4 +210,4 @@ module _ (m : Module) (free : HasNoCycle m) (plain : BindsNoConstant m) (well_ty
           let r = constant_item (item_named name m.items) c in
           let k = (all_have_values 1).constants name (every_item_passes m free name (d.Constant r.0) r.1 refl) (sym (at_text name is_constant_item) ∙ c) in
           gives_still types K.items.type_named more_declared (type_of_value v) (Some v) (subst (λ u. GivesOf types (type_of_value u) (Some u)) (same_some k.0 v (sym k.1 ∙ e)) k.2)
-      by_kind name v e false c = none_some v (sym (of.constant_unknown m (length m.items) name (no_constant_use (item_named name m.items) c)) ∙ e)
+      by_kind name v e false c = none_some v (sym (of.constant_unknown m (2 * length m.items) name (no_constant_use (item_named name m.items) c)) ∙ e)

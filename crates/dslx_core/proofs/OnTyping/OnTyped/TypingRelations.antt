@@ -40,6 +40,23 @@ unbroken_parts (f ∷ fs) gs e =
     let r = unbroken_parts fs gs q.1 in
     (ap (λ b. b || has_broken fs) q.0 ∙ r.0, r.1)
 
+-- a rule is broken in the first of two lists, or behind it
+pub broken_first : (fs gs : List Fault) → has_broken fs ≡ true → has_broken (fs ++ gs) ≡ true
+broken_first [] gs e = absurd (true≢false (sym e))
+broken_first (f ∷ fs) gs e = by_first (is_rule f) e (broken_first fs gs)
+  where
+    by_first : (p : Bool) → (p || has_broken fs) ≡ true → (has_broken fs ≡ true → has_broken (fs ++ gs) ≡ true) → (p || has_broken (fs ++ gs)) ≡ true
+    by_first true q rest = refl
+    by_first false q rest = rest q
+
+pub broken_there : (fs gs : List Fault) (rule : ℕ) (span : Span) → has_broken (fs ++ breaks rule span ∷ gs) ≡ true
+broken_there [] gs rule span = refl
+broken_there (f ∷ fs) gs rule span = by_first (is_rule f) (broken_there fs gs rule span)
+  where
+    by_first : (p : Bool) → has_broken (fs ++ breaks rule span ∷ gs) ≡ true → (p || has_broken (fs ++ breaks rule span ∷ gs)) ≡ true
+    by_first true q = refl
+    by_first false q = q
+
 pub three_unbroken : (fs gs hs : List Fault) → has_broken ((fs ++ gs) ++ hs) ≡ false → (has_broken fs ≡ false) × (has_broken gs ≡ false) × (has_broken hs ≡ false)
 three_unbroken fs gs hs e =
     let r = unbroken_parts (fs ++ gs) hs e in

@@ -19,7 +19,9 @@ use Rattle.dslx_core.proofs.Lemmas.Typing.Laws.{value_equals_itself}
 use Rattle.dslx_core.proofs.Lemmas.Typing.Laws.Chains.{Ends, OfEach, item_ends}
 use Rattle.dslx_core.specs.Typing.TypingRelations.Closed.{ReachOneAnother, IsOneOf, ends_within}
 use Rattle.dslx_core.specs.Typing.TypingRelations.Reached.{AllNamed, IsClosed}
-use Rattle.dslx_core.proofs.OnTyping.OnTyping.OfItems.{instances_reach, whole_is}
+use Rattle.dslx_core.proofs.Lemmas.Typing.Laws.Reaching.{item_ranked}
+use Rattle.dslx_core.specs.Typing.Laws.Ranks.{Ranked, is_above}
+use Rattle.dslx_core.proofs.OnTyping.OnTyping.OfItems.{instances_reach_down, whole_is}
 
 -- ---- lists of instances
 
@@ -179,9 +181,9 @@ every_item m free name x e = ends_so m (length m.items) name (by_kind x e)
 abbrev pub reached_from : GlobalEnv → Instance → List Instance
 reached_from known i = (found_of_instance known i).reached
 
--- each one reaches none but these, or its chains are short
+-- each one reaches none but these, or has a low rank
 abbrev IsDone : Module → GlobalEnv → ℕ → List Instance → Type 0
-IsDone m known n found = (i : Instance) → IsOneOf i found → ((j : Instance) → IsOneOf j (reached_from known i) → is_reached j found ≡ true) ⊎ (ends_within m n i.name ≡ true)
+IsDone m known n found = (i : Instance) → IsOneOf i found → ((j : Instance) → IsOneOf j (reached_from known i) → is_reached j found ≡ true) ⊎ Ranked m n i.name
 
 named_one : (P : List ℕ → Bool) (i : Instance) (is : List Instance) → AllNamed P is → IsOneOf i is → P i.name ≡ true
 named_one P i [] h k = absurd k
@@ -193,27 +195,27 @@ one_step m a n found done i h = elim (old_or_new i found (flat_map (reached_from
   | inl old ↦ inl (λ j q. all_added j found (flat_map (reached_from (globals_within m a)) found) (in_flat (reached_from (globals_within m a)) i j found old q))
   | inr new ↦ (let by = from_flat (reached_from (globals_within m a)) i found new.0 in elim (done by.by by.among) [
     | inl all ↦ absurd (true≢false (sym (all i by.reached) ∙ new.1))
-    | inr short ↦ inr (named_one (ends_within m n) i (reached_from (globals_within m a) by.by) (instances_reach (ends_within m n) m (closed m n) a by.by short) by.reached)
+    | inr low ↦ inr (low i.name (named_one (is_above m by.by.name) i (reached_from (globals_within m a) by.by) (instances_reach_down m a by.by) by.reached))
   ])
 ]
 
 steps_end : (m : Module) (a n : ℕ) (found : List Instance) → IsDone m (globals_within m a) n found → ReachOneAnother (globals_within m a) (reached_within (globals_within m a) n found)
 steps_end m a zero found done = λ i j h k. elim (done i h) [
   | inl all ↦ all j k
-  | inr short ↦ absurd (true≢false (sym short))
+  | inr low ↦ absurd low
 ]
 steps_end m a (suc n) found done = steps_end m a n (reached_next (globals_within m a) found) (one_step m a n found done)
 
--- at the start no chain is longer than the list of items
-at_start : (m : Module) → HasNoCycle m → (a : ℕ) (start : List Instance) → IsDone m (globals_within m a) (length m.items) start
-at_start m free a start i h = by_item (item_named i.name m.items) refl
+-- at the start no rank is higher than the list of items is long
+at_start : (m : Module) (a : ℕ) (start : List Instance) → IsDone m (globals_within m a) (length m.items) start
+at_start m a start i h = by_item (item_named i.name m.items) refl
   where
-    by_item : (o : Option Definition) → item_named i.name m.items ≡ o → ((j : Instance) → IsOneOf j (reached_from (globals_within m a) i) → is_reached j start ≡ true) ⊎ (ends_within m (length m.items) i.name ≡ true)
+    by_item : (o : Option Definition) → item_named i.name m.items ≡ o → ((j : Instance) → IsOneOf j (reached_from (globals_within m a) i) → is_reached j start ≡ true) ⊎ Ranked m (length m.items) i.name
     by_item None q = inl (λ j k. absurd (subst (λ o. IsOneOf j (found_of_item (globals_within m a) i.parametric_args o).reached) ((λ p. item_named i.name (whole_is m a p).items) ∙ q) k))
-    by_item (Some x) q = inr (every_item m free i.name x q)
+    by_item (Some x) q = inr (item_ranked m i.name x q)
 
-pub reaching_ends : (m : Module) → HasNoCycle m → (a : ℕ) (start : List Instance) → ReachOneAnother (globals_within m a) (reached_within (globals_within m a) (length m.items) start)
-reaching_ends m free a start = steps_end m a (length m.items) start (at_start m free a start)
+pub reaching_ends : (m : Module) (a : ℕ) (start : List Instance) → ReachOneAnother (globals_within m a) (reached_within (globals_within m a) (length m.items) start)
+reaching_ends m a start = steps_end m a (length m.items) start (at_start m a start)
 
 -- what is there stays there
 pub steps_keep : (known : GlobalEnv) (i : Instance) (n : ℕ) (found : List Instance) → is_reached i found ≡ true → is_reached i (reached_within known n found) ≡ true

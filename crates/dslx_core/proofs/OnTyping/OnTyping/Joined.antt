@@ -1,5 +1,5 @@
 -- The induction on all sorts of parts of a tree: what each part reaches is of functions that it mentions.
-use Rattle.std.proofs.Common.{◌≡◌, ◌&&◌, ◌++◌, ℕ, Bool, true, false, if◌then◌else◌, List, [], ◌∷◌, map, length, Option, Some, None, refl, sym, subst}
+use Rattle.std.proofs.Common.{◌&&◌, ◌++◌, ℕ, Bool, true, false, if◌then◌else◌, List, [], ◌∷◌, map, length, Option, Some, None, refl, sym, subst}
 use Rattle.xb_span.specs.declared.span.Span.{Span}
 use Rattle.dslx_tree.specs.declared.block.Block.{Block}
 use Rattle.dslx_tree.specs.declared.block.Let.{Let}
@@ -13,7 +13,6 @@ use Rattle.dslx_tree.specs.declared.expr.For.{For}
 use Rattle.dslx_tree.specs.declared.expr.Node.{Node}
 use Rattle.dslx_tree.specs.declared.expr.Number.{Number}
 use Rattle.dslx_tree.specs.declared.ident.Ident.{Ident}
-use Rattle.dslx_tree.specs.declared.item.Function.{Function}
 use Rattle.dslx_tree.specs.declared.item.Struct.{Struct}
 use Rattle.dslx_tree.specs.declared.pattern.Pattern.{Pattern}
 use Rattle.dslx_tree.specs.declared.pattern.Shape.{Shape}
@@ -23,7 +22,7 @@ use Rattle.dslx_tree.proofs.Lemmas.Folds.Levels.{Carriers, StmtLevel, NodeLevel,
 use Rattle.dslx_tree.proofs.Lemmas.Folds.Folds.{Steps}
 use Rattle.dslx_tree.proofs.Lemmas.Folds.Related.{Relations, both, firsts, seconds, KeepRelated, related_expr, related_block, related_type_expr, related_arg}
 use Rattle.dslx_meaning.specs.Callees.{CallKind, Calls, kind_of_call, is_text_function}
-use Rattle.dslx_meaning.specs.Items.{as_function, as_struct, item_named}
+use Rattle.dslx_meaning.specs.Items.{as_struct, item_named}
 use Rattle.dslx_meaning.specs.declared.ty.DslxType.{DslxType}
 use Rattle.dslx_meaning.specs.Rules.AggregateRules.{array_in, element_alone, element_in, element_type, field_typing, others_typing, struct_if, struct_typing}
 use Rattle.dslx_meaning.specs.Rules.CallRules.{call_typing}
@@ -39,9 +38,9 @@ use Rattle.dslx_meaning.specs.Rules.NodeRules.{arg_pair, block_pair, expr_pair, 
 use Rattle.dslx_meaning.specs.Rules.Paired.{with_stmt, with_node, with_shape, with_type_node, with_block, with_bind, with_arg, with_arm, with_expr, with_field, with_loop, with_number, with_pattern, with_type_expr}
 use Rattle.dslx_meaning.specs.Rules.PatternRules.{first_part_type, name_pattern, other_part_types, part_types, parts_typing, pattern_alone}
 use Rattle.dslx_meaning.specs.Rules.TypeRules.{inner_type, inner_types, named_type}
-use Rattle.dslx_core.specs.Typing.TypingRelations.Reached.{AllNamed, InstancesReach, MentionsReach}
+use Rattle.dslx_core.specs.Typing.TypingRelations.Reached.{AllNamed, MentionsReach}
 use Rattle.dslx_meaning.specs.Lists.{and_then}
-use Rattle.dslx_core.proofs.OnTyping.OnTyping.OfCalls.{EachReaches, IfCalls, call_reaches}
+use Rattle.dslx_core.proofs.OnTyping.OnTyping.OfCalls.{CalleeReaches, EachReaches, IfCalls, call_reaches}
 use Rattle.dslx_core.proofs.OnTyping.OnTyping.Parts.{ArmReaches, FieldReaches, PatternReaches, Reaches, StatementReaches, TypeReaches, constant_reaches, element_reaches, join, join_three, member_reaches, name_reaches, taken_reaches, parts, three_parts, unmarked}
 
 -- ---- the two folds
@@ -170,17 +169,17 @@ mentioned_node P x = mention_steps.node (map_node (Parts P) mentions (seconds ty
 
 -- ---- lists of parts
 
-exprs_reach : (P : List ℕ → Bool) (bound : List (List ℕ)) (context : TypeEnv) (ps : List (ExprPart P)) → MentionsReach P context.known (all_mentions (map (λ (p : ExprPart P). p.1) ps) bound) → EachReaches P context (map (λ (p : ExprPart P). p.0) ps)
+exprs_reach : (P : List ℕ → Bool) (bound : List (List ℕ)) (context : TypeEnv) (ps : List (ExprPart P)) → MentionsReach P context.known context.owner (all_mentions (map (λ (p : ExprPart P). p.1) ps) bound) → EachReaches P context (map (λ (p : ExprPart P). p.0) ps)
 exprs_reach P bound context [] h = tt
 exprs_reach P bound context (p ∷ ps) h =
-    let r = parts P context.known (p.1 bound) (all_mentions (map (λ (q : ExprPart P). q.1) ps) bound) h in
+    let r = parts P context.known context.owner (p.1 bound) (all_mentions (map (λ (q : ExprPart P). q.1) ps) bound) h in
     (p.2 bound false context r.0, exprs_reach P bound context ps r.1)
 
-args_reach : (P : List ℕ → Bool) (bound : List (List ℕ)) (context : TypeEnv) (ps : List (ArgPart P)) → MentionsReach P context.known (all_mentions (map (λ (p : ArgPart P). p.1) ps) bound)
+args_reach : (P : List ℕ → Bool) (bound : List (List ℕ)) (context : TypeEnv) (ps : List (ArgPart P)) → MentionsReach P context.known context.owner (all_mentions (map (λ (p : ArgPart P). p.1) ps) bound)
     → EachReaches P context (map (λ (a : Arg × ExprPair). a.1) (map (λ (p : ArgPart P). p.0) ps))
 args_reach P bound context [] h = tt
 args_reach P bound context (p ∷ ps) h =
-    let r = parts P context.known (p.1 bound) (all_mentions (map (λ (q : ArgPart P). q.1) ps) bound) h in
+    let r = parts P context.known context.owner (p.1 bound) (all_mentions (map (λ (q : ArgPart P). q.1) ps) bound) h in
     (p.2 bound false context r.0, args_reach P bound context ps r.1)
 
 elements_alone : (P : List ℕ → Bool) (context : TypeEnv) (es : List ExprPair) → EachReaches P context es → AllNamed P (reached_of_all (map (element_alone context) es))
@@ -192,42 +191,42 @@ elements_in P context wanted [] h = tt
 elements_in P context wanted (e ∷ es) h =
     join P (element_in context wanted e).reached (reached_of_all (map (element_in context wanted) es)) (element_reaches P context wanted e (unmarked P (span_of e) (within context e) h.0)) (elements_in P context wanted es h.1)
 
-types_reach : (P : List ℕ → Bool) (bound : List (List ℕ)) (context : TypeEnv) (ps : List (TypePart P)) → MentionsReach P context.known (all_mentions (map (λ (p : TypePart P). p.1) ps) bound)
+types_reach : (P : List ℕ → Bool) (bound : List (List ℕ)) (context : TypeEnv) (ps : List (TypePart P)) → MentionsReach P context.known context.owner (all_mentions (map (λ (p : TypePart P). p.1) ps) bound)
     → AllNamed P (reached_of_all (inner_types context (map (λ (p : TypePart P). p.0) ps)))
 types_reach P bound context [] h = tt
 types_reach P bound context (p ∷ ps) h =
-    let r = parts P context.known (p.1 bound) (all_mentions (map (λ (q : TypePart P). q.1) ps) bound) h in
+    let r = parts P context.known context.owner (p.1 bound) (all_mentions (map (λ (q : TypePart P). q.1) ps) bound) h in
     join P (inner_type context p.0).reached (reached_of_all (inner_types context (map (λ (q : TypePart P). q.0) ps))) (p.2 bound context r.0) (types_reach P bound context ps r.1)
 
-fields_reach : (P : List ℕ → Bool) (bound : List (List ℕ)) (context : TypeEnv) (struct : Option DslxType) (ps : List (FieldPart P)) → MentionsReach P context.known (all_mentions (map (λ (p : FieldPart P). p.1) ps) bound)
+fields_reach : (P : List ℕ → Bool) (bound : List (List ℕ)) (context : TypeEnv) (struct : Option DslxType) (ps : List (FieldPart P)) → MentionsReach P context.known context.owner (all_mentions (map (λ (p : FieldPart P). p.1) ps) bound)
     → AllNamed P (reached_of_all (map (field_typing context struct) (map second_of (map (λ (p : FieldPart P). p.0) ps))))
 fields_reach P bound context struct [] h = tt
 fields_reach P bound context struct (p ∷ ps) h =
-    let r = parts P context.known (p.1 bound) (all_mentions (map (λ (q : FieldPart P). q.1) ps) bound) h in
+    let r = parts P context.known context.owner (p.1 bound) (all_mentions (map (λ (q : FieldPart P). q.1) ps) bound) h in
     join P (field_typing context struct p.0.1).reached (reached_of_all (map (field_typing context struct) (map second_of (map (λ (q : FieldPart P). q.0) ps)))) (p.2 bound context struct r.0)
     (fields_reach P bound context struct ps r.1)
 
-arms_reach : (P : List ℕ → Bool) (bound : List (List ℕ)) (context : TypeEnv) (t : Option DslxType) (ps : List (ArmPart P)) → MentionsReach P context.known (all_mentions (map (λ (p : ArmPart P). p.1) ps) bound)
+arms_reach : (P : List ℕ → Bool) (bound : List (List ℕ)) (context : TypeEnv) (t : Option DslxType) (ps : List (ArmPart P)) → MentionsReach P context.known context.owner (all_mentions (map (λ (p : ArmPart P). p.1) ps) bound)
     → AllNamed P (arms_reached (map (arm_typing context t) (map second_of (map (λ (p : ArmPart P). p.0) ps))))
 arms_reach P bound context t [] h = tt
 arms_reach P bound context t (p ∷ ps) h =
-    let r = parts P context.known (p.1 bound) (all_mentions (map (λ (q : ArmPart P). q.1) ps) bound) h in
+    let r = parts P context.known context.owner (p.1 bound) (all_mentions (map (λ (q : ArmPart P). q.1) ps) bound) h in
     let a = arm_typing context t p.0.1 in
     join P (a.seen.reached ++ a.value.reached) (arms_reached (map (arm_typing context t) (map second_of (map (λ (q : ArmPart P). q.0) ps)))) (p.2 bound context t r.0) (arms_reach P bound context t ps r.1)
 
-alternatives_reach : (P : List ℕ → Bool) (bound : List (List ℕ)) (context : TypeEnv) (t : Option DslxType) (ps : List (PatternPart P)) → MentionsReach P context.known (binders_mentions (map (λ (p : PatternPart P). p.1) ps) bound)
+alternatives_reach : (P : List ℕ → Bool) (bound : List (List ℕ)) (context : TypeEnv) (t : Option DslxType) (ps : List (PatternPart P)) → MentionsReach P context.known context.owner (binders_mentions (map (λ (p : PatternPart P). p.1) ps) bound)
     → AllNamed P (alternatives_seen context t (map (λ (p : PatternPart P). p.0) ps)).reached
 alternatives_reach P bound context t [] h = tt
 alternatives_reach P bound context t (p ∷ ps) h =
-    let r = parts P context.known (p.1.mentions bound) (binders_mentions (map (λ (q : PatternPart P). q.1) ps) bound) h in
+    let r = parts P context.known context.owner (p.1.mentions bound) (binders_mentions (map (λ (q : PatternPart P). q.1) ps) bound) h in
     let rest = alternatives_seen context t (map (λ (q : PatternPart P). q.0) ps) in
     join P (one_alternative context t p.0 rest).reached rest.reached (p.2 bound true context t [] rest.locals r.0) (alternatives_reach P bound context t ps r.1)
 
 parts_reach : (P : List ℕ → Bool) (bound : List (List ℕ)) (may_fail : Bool) (context : TypeEnv) (ts : Option (List DslxType)) (names : List (List ℕ)) (locals : List Typed) (ps : List (PatternPart P))
-    → MentionsReach P context.known (binders_mentions (map (λ (p : PatternPart P). p.1) ps) bound) → AllNamed P (parts_typing may_fail context (map (λ (p : PatternPart P). p.0) ps) ts names locals).reached
+    → MentionsReach P context.known context.owner (binders_mentions (map (λ (p : PatternPart P). p.1) ps) bound) → AllNamed P (parts_typing may_fail context (map (λ (p : PatternPart P). p.0) ps) ts names locals).reached
 parts_reach P bound may_fail context ts names locals [] h = tt
 parts_reach P bound may_fail context ts names locals (p ∷ ps) h =
-    let r = parts P context.known (p.1.mentions bound) (binders_mentions (map (λ (q : PatternPart P). q.1) ps) bound) h in
+    let r = parts P context.known context.owner (p.1.mentions bound) (binders_mentions (map (λ (q : PatternPart P). q.1) ps) bound) h in
     let first = p.0.1 may_fail context (first_part_type ts) names locals in
     join P first.reached (parts_typing may_fail context (map (λ (q : PatternPart P). q.0) ps) (other_part_types ts) first.names first.locals).reached (p.2 bound may_fail context (first_part_type ts) names locals r.0)
     (parts_reach P bound may_fail context (other_part_types ts) first.names first.locals ps r.1)
@@ -235,29 +234,29 @@ parts_reach P bound may_fail context ts names locals (p ∷ ps) h =
 -- ---- expressions
 
 -- what stands alone
-alone_reaches : (P : List ℕ → Bool) (bound : List (List ℕ)) (context : TypeEnv) (e : ExprPart P) → MentionsReach P context.known (e.1 bound) → AllNamed P (alone context e.0).reached
+alone_reaches : (P : List ℕ → Bool) (bound : List (List ℕ)) (context : TypeEnv) (e : ExprPart P) → MentionsReach P context.known context.owner (e.1 bound) → AllNamed P (alone context e.0).reached
 alone_reaches P bound context e h = unmarked P (span_of e.0) (within context e.0) (e.2 bound false context h)
 
 call_claim : (P : List ℕ → Bool) (kind : CallKind) (span : Span) (name : Ident) (parametric_args : List (ArgPart P)) (es : List (ExprPart P)) (bound : List (List ℕ)) (on_top : Bool) (context : TypeEnv)
-    → MentionsReach P context.known (((if is_text_function kind then mention AsFunction name.name else []) ++ all_mentions (map (λ (p : ArgPart P). p.1) parametric_args) bound) ++ all_mentions (map (λ (p : ExprPart P). p.1) es) bound)
+    → MentionsReach P context.known context.owner (((if is_text_function kind then mention AsFunction name.name else []) ++ all_mentions (map (λ (p : ArgPart P). p.1) parametric_args) bound) ++ all_mentions (map (λ (p : ExprPart P). p.1) es) bound)
     → AllNamed P (call_typing kind span name (map (λ (p : ArgPart P). p.0) parametric_args) (map (λ (p : ExprPart P). p.0) es) on_top context).reached
 call_claim P kind span name parametric_args es bound on_top context h =
     let own : List Mention = if is_text_function kind then mention AsFunction name.name else [] in
-    let r = three_parts P context.known own (all_mentions (map (λ (p : ArgPart P). p.1) parametric_args) bound) (all_mentions (map (λ (p : ExprPart P). p.1) es) bound) h in
+    let r = three_parts P context.known context.owner own (all_mentions (map (λ (p : ArgPart P). p.1) parametric_args) bound) (all_mentions (map (λ (p : ExprPart P). p.1) es) bound) h in
     call_reaches P kind span name (map (λ (p : ArgPart P). p.0) parametric_args) (map (λ (p : ExprPart P). p.0) es) on_top context (args_reach P bound context parametric_args r.1) (exprs_reach P bound context es r.2) (by_kind kind r.0)
   where
-    by_kind : (kind : CallKind) → MentionsReach P context.known (if is_text_function kind then mention AsFunction name.name else [])
-        → IfCalls kind ((f : Function) → as_function (item_named name.name context.known.whole.items) ≡ Some f → InstancesReach P context.known f.name.name)
+    by_kind : (kind : CallKind) → MentionsReach P context.known context.owner (if is_text_function kind then mention AsFunction name.name else [])
+        → IfCalls kind (CalleeReaches P context name.name)
     by_kind Calls g = g.0
     by_kind _ g = tt
 
-struct_claim : (P : List ℕ → Bool) (span : Span) (name : Ident) (fields : List (FieldPart P)) (rest : Option ExprPair) (ms : Mentions) → ((bound : List (List ℕ)) (context : TypeEnv) (struct : Option DslxType) → MentionsReach P context.known (ms bound) → AllNamed P (others_typing context struct rest).reached)
-    → (bound : List (List ℕ)) (context : TypeEnv) → MentionsReach P context.known ((mention AsStruct name.name ++ all_mentions (map (λ (p : FieldPart P). p.1) fields) bound) ++ ms bound)
+struct_claim : (P : List ℕ → Bool) (span : Span) (name : Ident) (fields : List (FieldPart P)) (rest : Option ExprPair) (ms : Mentions) → ((bound : List (List ℕ)) (context : TypeEnv) (struct : Option DslxType) → MentionsReach P context.known context.owner (ms bound) → AllNamed P (others_typing context struct rest).reached)
+    → (bound : List (List ℕ)) (context : TypeEnv) → MentionsReach P context.known context.owner ((mention AsStruct name.name ++ all_mentions (map (λ (p : FieldPart P). p.1) fields) bound) ++ ms bound)
     → AllNamed P (struct_typing span context name (map second_of (map (λ (p : FieldPart P). p.0) fields)) rest).reached
 struct_claim P span name fields rest ms others bound context h = by_struct (as_struct (item_named name.name context.known.whole.items))
   where
-    r : MentionsReach P context.known (mention AsStruct name.name) × MentionsReach P context.known (all_mentions (map (λ (p : FieldPart P). p.1) fields) bound) × MentionsReach P context.known (ms bound)
-    r = three_parts P context.known (mention AsStruct name.name) (all_mentions (map (λ (p : FieldPart P). p.1) fields) bound) (ms bound) h
+    r : MentionsReach P context.known context.owner (mention AsStruct name.name) × MentionsReach P context.known context.owner (all_mentions (map (λ (p : FieldPart P). p.1) fields) bound) × MentionsReach P context.known context.owner (ms bound)
+    r = three_parts P context.known context.owner (mention AsStruct name.name) (all_mentions (map (λ (p : FieldPart P). p.1) fields) bound) (ms bound) h
 
     both_reach : (struct : Option DslxType) → AllNamed P (reached_of_all (map (field_typing context struct) (map second_of (map (λ (p : FieldPart P). p.0) fields))) ++ (others_typing context struct rest).reached)
     both_reach struct =
@@ -272,7 +271,7 @@ node_reaches P (Node-F.Node::Number n) span bound on_top context h = n.2 span bo
 node_reaches P (Node-F.Node::Bool bit) span bound on_top context h = tt
 node_reaches P (Node-F.Node::Array None es dots) span bound on_top context h = elements_alone P context (map (λ (p : ExprPart P). p.0) es) (exprs_reach P bound context es h)
 node_reaches P (Node-F.Node::Array (Some t) es dots) span bound on_top context h =
-    let r = parts P context.known (t.1 bound) (all_mentions (map (λ (p : ExprPart P). p.1) es) bound) h in
+    let r = parts P context.known context.owner (t.1 bound) (all_mentions (map (λ (p : ExprPart P). p.1) es) bound) h in
     let wanted = element_type (and_then (t.0.1 context).ty array_in) in
     join P (t.0.1 context).reached (reached_of_all (map (element_in context wanted) (map (λ (p : ExprPart P). p.0) es))) (t.2 bound context r.0) (elements_in P context wanted (map (λ (p : ExprPart P). p.0) es) (exprs_reach P bound context es r.1))
 node_reaches P (Node-F.Node::Name name) span bound on_top context h = name_reaches P span context name
@@ -283,31 +282,31 @@ node_reaches P (Node-F.Struct name fields None) span bound on_top context h = st
 node_reaches P (Node-F.Struct name fields (Some rest)) span bound on_top context h = struct_claim P span name fields (Some rest.0) (mentions_if (Some rest.1)) (λ bound context struct h. alone_reaches P bound context rest h) bound context h
 node_reaches P (Node-F.Block b) span bound on_top context h = b.2 bound false context h
 node_reaches P (Node-F.If c a b) span bound on_top context h =
-    let r = three_parts P context.known (c.1 bound) (a.1 bound) (b.1 bound) h in
+    let r = three_parts P context.known context.owner (c.1 bound) (a.1 bound) (b.1 bound) h in
     join_three P (alone context c.0).reached (block_alone context a.0).reached (alone context b.0).reached (alone_reaches P bound context c r.0) (a.2 bound false context r.1) (alone_reaches P bound context b r.2)
 node_reaches P (Node-F.Match e arms) span bound on_top context h =
-    let r = parts P context.known (e.1 bound) (all_mentions (map (λ (p : ArmPart P). p.1) arms) bound) h in
+    let r = parts P context.known context.owner (e.1 bound) (all_mentions (map (λ (p : ArmPart P). p.1) arms) bound) h in
     let value = alone context e.0 in
     join P value.reached (arms_reached (map (arm_typing context value.ty) (map second_of (map (λ (p : ArmPart P). p.0) arms)))) (alone_reaches P bound context e r.0) (arms_reach P bound context value.ty arms r.1)
 node_reaches P (Node-F.For f) span bound on_top context h = f.2 span bound context h
 node_reaches P (Node-F.Index e i) span bound on_top context h =
-    let r = parts P context.known (e.1 bound) (i.1 bound) h in
+    let r = parts P context.known context.owner (e.1 bound) (i.1 bound) h in
     join P (alone context e.0).reached (alone context i.0).reached (alone_reaches P bound context e r.0) (alone_reaches P bound context i r.1)
 node_reaches P (Node-F.Slice e a b) span bound on_top context h =
-    let r = three_parts P context.known (e.1 bound) (a.1 bound) (b.1 bound) h in
+    let r = three_parts P context.known context.owner (e.1 bound) (a.1 bound) (b.1 bound) h in
     join_three P (alone context e.0).reached (constant_or_untyped context a.0).judgement.reached (constant_or_untyped context b.0).judgement.reached (alone_reaches P bound context e r.0)
     (constant_reaches P context a.0 (alone_reaches P bound context a r.1)) (constant_reaches P context b.0 (alone_reaches P bound context b r.2))
 node_reaches P (Node-F.Part e i t) span bound on_top context h =
-    let r = three_parts P context.known (e.1 bound) (i.1 bound) (t.1 bound) h in
+    let r = three_parts P context.known context.owner (e.1 bound) (i.1 bound) (t.1 bound) h in
     join_three P (alone context e.0).reached (alone context i.0).reached (t.0.1 context).reached (alone_reaches P bound context e r.0) (alone_reaches P bound context i r.1) (t.2 bound context r.2)
 node_reaches P (Node-F.Field e name) span bound on_top context h = alone_reaches P bound context e h
 node_reaches P (Node-F.Element e place k) span bound on_top context h = taken_reaches P k context e.0 (e.2 bound false context h)
 node_reaches P (Node-F.Prefix o e) span bound on_top context h = alone_reaches P bound context e h
 node_reaches P (Node-F.Cast e t) span bound on_top context h =
-    let r = parts P context.known (e.1 bound) (t.1 bound) h in
+    let r = parts P context.known context.owner (e.1 bound) (t.1 bound) h in
     join P (alone context e.0).reached (t.0.1 context).reached (alone_reaches P bound context e r.0) (t.2 bound context r.1)
 node_reaches P (Node-F.Binary o l r) span bound on_top context h =
-    let q = parts P context.known (l.1 bound) (r.1 bound) h in
+    let q = parts P context.known context.owner (l.1 bound) (r.1 bound) h in
     join P (alone context l.0).reached (alone context r.0).reached (alone_reaches P bound context l q.0) (alone_reaches P bound context r q.1)
 
 -- ---- types and patterns
@@ -324,7 +323,7 @@ type_reaches P TypeNode-F.TypeNode::Bool span bound context h = tt
 type_reaches P (TypeNode-F.TypeNode::Name name) span bound context h = named_reaches P span context name (is_of_use AsType (item_named name context.known.whole.items))
 type_reaches P (TypeNode-F.TypeNode::Tuple ts) span bound context h = types_reach P bound context ts h
 type_reaches P (TypeNode-F.TypeNode::Array t e) span bound context h =
-    let r = parts P context.known (t.1 bound) (e.1 bound) h in
+    let r = parts P context.known context.owner (t.1 bound) (e.1 bound) h in
     join P (inner_type context t.0).reached (count_of context e.0).judgement.reached (t.2 bound context r.0) (constant_reaches P context e.0 (alone_reaches P bound context e r.1))
 
 name_pattern_reaches : (P : List ℕ → Bool) (span : Span) (may_fail : Bool) (context : TypeEnv) (t : Option DslxType) (names : List (List ℕ)) (locals : List Typed) (name : List ℕ) (b : Bool)
@@ -345,7 +344,7 @@ arm_reaches : (P : List ℕ → Bool) (x : ArmLevel (Parts P)) → ArmReaches P 
     (mention_steps.arm (map_arm (Parts P) mentions (seconds typing mentions (reaching P)) x))
 arm_reaches P x bound context t h =
     let names = bound_behind (map (λ (p : PatternPart P). p.1) x.patterns) ++ bound in
-    let r = parts P context.known (binders_mentions (map (λ (p : PatternPart P). p.1) x.patterns) bound) (x.value.1 names) h in
+    let r = parts P context.known context.owner (binders_mentions (map (λ (p : PatternPart P). p.1) x.patterns) bound) (x.value.1 names) h in
     let seen = alternatives_seen context t (map (λ (p : PatternPart P). p.0) x.patterns) in
     join P seen.reached (alone (with_typed context seen.locals) x.value.0).reached (alternatives_reach P bound context t x.patterns r.0) (alone_reaches P names (with_typed context seen.locals) x.value r.1)
 
@@ -360,16 +359,18 @@ bind_reaches P x = by_type x.ty
         (mention_steps.bind (map_bind (Parts P) mentions (seconds typing mentions (reaching P)) (record { span = x.span; pattern = x.pattern; ty = o; value = x.value })))
     by_type None = record {
       known = λ on_top context. refl;
+      owner = λ on_top context. refl;
       reached = λ bound on_top context h.
-          let r = parts P context.known (x.value.1 bound) (x.pattern.1.mentions bound) h in
+          let r = parts P context.known context.owner (x.value.1 bound) (x.pattern.1.mentions bound) h in
           let value = x.value.0.1 on_top context in
           let seen = pattern_alone false context value.ty x.pattern.0 in
           join_three P value.reached [] seen.reached (x.value.2 bound on_top context r.0) tt (x.pattern.2 bound false context value.ty [] context.locals r.1);
     }
     by_type (Some t) = record {
       known = λ on_top context. refl;
+      owner = λ on_top context. refl;
       reached = λ bound on_top context h.
-          let r = three_parts P context.known (t.1 bound) (x.value.1 bound) (x.pattern.1.mentions bound) h in
+          let r = three_parts P context.known context.owner (t.1 bound) (x.value.1 bound) (x.pattern.1.mentions bound) h in
           let value = x.value.0.1 on_top context in
           let written = t.0.1 context in
           let wanted = bound_type (Some written) value.ty in
@@ -383,9 +384,10 @@ bare_reaches P false span j h = unmarked P span j h
 
 stmt_reaches : (P : List ℕ → Bool) (x : StmtLevel (Parts P)) → StatementReaches P (expr_typing.stmt (map_stmt (Parts P) typing (firsts typing mentions (reaching P)) x)).1
     (mention_steps.stmt (map_stmt (Parts P) mentions (seconds typing mentions (reaching P)) x))
-stmt_reaches P (Stmt-F.Let l) = record { known = l.2.known; reached = l.2.reached }
+stmt_reaches P (Stmt-F.Let l) = record { known = l.2.known; owner = l.2.owner; reached = l.2.reached }
 stmt_reaches P (Stmt-F.Bare e) = record {
   known = λ on_top context. refl;
+  owner = λ on_top context. refl;
   reached = λ bound on_top context h. bare_reaches P (on_top && is_effect e.0.0) (span_of e.0) (e.0.1 on_top context) (e.2 bound on_top context h);
 }
 
@@ -394,15 +396,15 @@ record BlockHasValue (P : List ℕ → Bool) (ss : List StatementTyping) (value 
   walked : AllNamed P (statements_typing ss on_top context).reached
   last : AllNamed P (last_typing (statements_typing ss on_top context).context value).reached
 
-statements_reach : (P : List ℕ → Bool) (value : Option ExprPair) (ms : Mentions) → ((bound : List (List ℕ)) (context : TypeEnv) → MentionsReach P context.known (ms bound) → AllNamed P (last_typing context value).reached)
-    → (ss : List (StmtPart P)) (bound : List (List ℕ)) (on_top : Bool) (context : TypeEnv) → MentionsReach P context.known (statements_mentions (map (λ (s : StmtPart P). s.1) ss) ms bound)
+statements_reach : (P : List ℕ → Bool) (value : Option ExprPair) (ms : Mentions) → ((bound : List (List ℕ)) (context : TypeEnv) → MentionsReach P context.known context.owner (ms bound) → AllNamed P (last_typing context value).reached)
+    → (ss : List (StmtPart P)) (bound : List (List ℕ)) (on_top : Bool) (context : TypeEnv) → MentionsReach P context.known context.owner (statements_mentions (map (λ (s : StmtPart P). s.1) ss) ms bound)
     → BlockHasValue P (map (λ (s : Stmt × StatementTyping). s.1) (map (λ (s : StmtPart P). s.0) ss)) value on_top context
 statements_reach P value ms end [] bound on_top context h = record { walked = tt; last = end bound context h }
 statements_reach P value ms end (s ∷ ss) bound on_top context h =
     let behind = statements_mentions (map (λ (q : StmtPart P). q.1) ss) ms (s.1.names ++ bound) in
-    let r = parts P context.known (s.1.mentions bound) behind h in
+    let r = parts P context.known context.owner (s.1.mentions bound) behind h in
     let first = s.0.1 on_top context in
-    let more = statements_reach P value ms end ss (s.1.names ++ bound) on_top first.context (subst (λ known. MentionsReach P known behind) (sym (s.2.known on_top context)) r.1) in
+    let more = statements_reach P value ms end ss (s.1.names ++ bound) on_top first.context (subst (λ owner. MentionsReach P first.context.known owner behind) (sym (s.2.owner on_top context)) (subst (λ known. MentionsReach P known context.owner behind) (sym (s.2.known on_top context)) r.1)) in
     record {
       walked = join P first.reached (statements_typing (map (λ (q : Stmt × StatementTyping). q.1) (map (λ (q : StmtPart P). q.0) ss)) on_top first.context).reached (s.2.reached bound on_top context r.0) more.walked;
       last = more.last;
@@ -412,8 +414,8 @@ block_reaches : (P : List ℕ → Bool) (x : BlockLevel (Parts P)) → Reaches P
     (mention_steps.block (map_block (Parts P) mentions (seconds typing mentions (reaching P)) x))
 block_reaches P x = by_value x.value
   where
-    whole : (value : Option ExprPair) (ms : Mentions) → ((bound : List (List ℕ)) (context : TypeEnv) → MentionsReach P context.known (ms bound) → AllNamed P (last_typing context value).reached) → (bound : List (List ℕ)) (on_top : Bool)
-        (context : TypeEnv) → MentionsReach P context.known (statements_mentions (map (λ (s : StmtPart P). s.1) x.statements) ms bound)
+    whole : (value : Option ExprPair) (ms : Mentions) → ((bound : List (List ℕ)) (context : TypeEnv) → MentionsReach P context.known context.owner (ms bound) → AllNamed P (last_typing context value).reached) → (bound : List (List ℕ)) (on_top : Bool)
+        (context : TypeEnv) → MentionsReach P context.known context.owner (statements_mentions (map (λ (s : StmtPart P). s.1) x.statements) ms bound)
         → AllNamed P ((statements_typing (map (λ (s : Stmt × StatementTyping). s.1) (map (λ (s : StmtPart P). s.0) x.statements)) on_top context).reached
         ++ (last_typing (statements_typing (map (λ (s : Stmt × StatementTyping). s.1) (map (λ (s : StmtPart P). s.0) x.statements)) on_top context).context value).reached)
     whole value ms end bound on_top context h =
@@ -439,17 +441,17 @@ loop_reaches P x span = by_type x.ty
     accumulator_at : TypeEnv → PatternSeen
     accumulator_at context = pattern_alone false (with_typed context (index_at context).locals) (alone context x.start.0).ty x.accumulator.0
 
-    whole : (bound : List (List ℕ)) (context : TypeEnv) (typed : List Mention) (written : List Instance) → (MentionsReach P context.known typed → AllNamed P written)
-        → MentionsReach P context.known ((((((x.from.1 bound ++ x.to.1 bound) ++ x.start.1 bound) ++ typed) ++ x.index.1.mentions bound) ++ x.accumulator.1.mentions bound) ++ x.body.1 ((x.accumulator.1.names ++ x.index.1.names) ++ bound))
+    whole : (bound : List (List ℕ)) (context : TypeEnv) (typed : List Mention) (written : List Instance) → (MentionsReach P context.known context.owner typed → AllNamed P written)
+        → MentionsReach P context.known context.owner ((((((x.from.1 bound ++ x.to.1 bound) ++ x.start.1 bound) ++ typed) ++ x.index.1.mentions bound) ++ x.accumulator.1.mentions bound) ++ x.body.1 ((x.accumulator.1.names ++ x.index.1.names) ++ bound))
         → AllNamed P (((((((constant_of context x.from.0).judgement.reached ++ (constant_of context x.to.0).judgement.reached) ++ (alone context x.start.0).reached) ++ written) ++ (index_at context).reached) ++ (accumulator_at context).reached)
         ++ (block_alone (with_typed context (accumulator_at context).locals) x.body.0).reached)
     whole bound context typed written own h =
         let names = (x.accumulator.1.names ++ x.index.1.names) ++ bound in
-        let six = parts P context.known (((((x.from.1 bound ++ x.to.1 bound) ++ x.start.1 bound) ++ typed) ++ x.index.1.mentions bound) ++ x.accumulator.1.mentions bound) (x.body.1 names) h in
-        let five = parts P context.known ((((x.from.1 bound ++ x.to.1 bound) ++ x.start.1 bound) ++ typed) ++ x.index.1.mentions bound) (x.accumulator.1.mentions bound) six.0 in
-        let four = parts P context.known (((x.from.1 bound ++ x.to.1 bound) ++ x.start.1 bound) ++ typed) (x.index.1.mentions bound) five.0 in
-        let three = parts P context.known ((x.from.1 bound ++ x.to.1 bound) ++ x.start.1 bound) typed four.0 in
-        let ends = three_parts P context.known (x.from.1 bound) (x.to.1 bound) (x.start.1 bound) three.0 in
+        let six = parts P context.known context.owner (((((x.from.1 bound ++ x.to.1 bound) ++ x.start.1 bound) ++ typed) ++ x.index.1.mentions bound) ++ x.accumulator.1.mentions bound) (x.body.1 names) h in
+        let five = parts P context.known context.owner ((((x.from.1 bound ++ x.to.1 bound) ++ x.start.1 bound) ++ typed) ++ x.index.1.mentions bound) (x.accumulator.1.mentions bound) six.0 in
+        let four = parts P context.known context.owner (((x.from.1 bound ++ x.to.1 bound) ++ x.start.1 bound) ++ typed) (x.index.1.mentions bound) five.0 in
+        let three = parts P context.known context.owner ((x.from.1 bound ++ x.to.1 bound) ++ x.start.1 bound) typed four.0 in
+        let ends = three_parts P context.known context.owner (x.from.1 bound) (x.to.1 bound) (x.start.1 bound) three.0 in
         let from = (constant_of context x.from.0).judgement in
         let to = (constant_of context x.to.0).judgement in
         let start = alone context x.start.0 in

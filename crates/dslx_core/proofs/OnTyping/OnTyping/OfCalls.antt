@@ -77,27 +77,34 @@ instance_reached P true name o h = tt
 instance_reached P false name None h = tt
 instance_reached P false name (Some vs) h = (h, tt)
 
-pub function_reaches : (P : List ℕ → Bool) (span : Span) (context : TypeEnv) (name : Ident) (gs : List ParametricArgument) (es : List ExprPair) (js : List Judgement) → AllNamed P (call_parts_reached gs js)
-    → ((f : Function) → as_function (item_named name.name context.known.whole.items) ≡ Some f → InstancesReach P context.known f.name.name)
+-- a function of the text, where rule 3 doesn't refuse its call
+abbrev pub CalleeReaches : (List ℕ → Bool) → TypeEnv → List ℕ → Type 0
+CalleeReaches P context name = context.known.is_cyclic context.owner name ≡ false → (f : Function) → as_function (item_named name context.known.whole.items) ≡ Some f → InstancesReach P context.known f.name.name
+
+pub function_reaches : (P : List ℕ → Bool) (span : Span) (context : TypeEnv) (name : Ident) (gs : List ParametricArgument) (es : List ExprPair) (js : List Judgement) → AllNamed P (call_parts_reached gs js) → CalleeReaches P context name.name
     → AllNamed P (function_call span context name gs es js (as_function (item_named name.name context.known.whole.items))).reached
 function_reaches P span context name gs es js h k = by_function (as_function (item_named name.name context.known.whole.items)) refl
   where
-    cyclic : List Fault
-    cyclic = breaks_if (context.known.is_cyclic context.owner name.name) 3 span
-
     seen : Function → ParametricArgsSeen
     seen f = call_parametric_args context.known f gs (types_of js)
 
-    by_count : (f : Function) → InstancesReach P context.known f.name.name → (b : Bool) → AllNamed P (if b then right_call span context f gs es js cyclic (seen f) else wrong_call span gs js cyclic).reached
-    by_count f r false = h
-    by_count f r true =
-        join_three P (call_parts_reached gs js) (typing_there cyclic (seen f)).reached (reached_by (is_refused cyclic (seen f)) f.name.name (seen f).values) h
-        (typing_reaches P context.known f.name.name (inferred_by f.arguments (types_of js)) (maybe_inferred f.arguments (types_of js)) f.parametrics gs cyclic r.declared)
-        (instance_reached P (is_refused cyclic (seen f)) f.name.name (seen f).values r.own)
+    by_cycle : (f : Function) → as_function (item_named name.name context.known.whole.items) ≡ Some f → (c : Bool) → context.known.is_cyclic context.owner name.name ≡ c
+        → AllNamed P (right_call span context f gs es js (breaks_if c 3 span) (seen f)).reached
+    by_cycle f q true e = join_three P (call_parts_reached gs js) [] [] h tt tt
+    by_cycle f q false e =
+        let r = k e f q in
+        join_three P (call_parts_reached gs js) (typing_there [] (seen f)).reached (reached_by (is_refused [] (seen f)) f.name.name (seen f).values) h
+        (typing_reaches P context.known f.name.name (inferred_by f.arguments (types_of js)) (maybe_inferred f.arguments (types_of js)) f.parametrics gs [] r.declared)
+        (instance_reached P (is_refused [] (seen f)) f.name.name (seen f).values r.own)
+
+    by_count : (f : Function) → as_function (item_named name.name context.known.whole.items) ≡ Some f → (b : Bool)
+        → AllNamed P (if b then right_call span context f gs es js (breaks_if (context.known.is_cyclic context.owner name.name) 3 span) (seen f) else wrong_call span gs js (breaks_if (context.known.is_cyclic context.owner name.name) 3 span)).reached
+    by_count f q false = h
+    by_count f q true = by_cycle f q (context.known.is_cyclic context.owner name.name) refl
 
     by_function : (o : Option Function) → as_function (item_named name.name context.known.whole.items) ≡ o → AllNamed P (function_call span context name gs es js o).reached
     by_function None q = h
-    by_function (Some f) q = by_count f (k f q) (has_right_count f gs es)
+    by_function (Some f) q = by_count f q (has_right_count f gs es)
 
 -- ---- operands
 
@@ -212,7 +219,7 @@ IfCalls Calls X = X
 IfCalls _ X = Unit {0}
 
 pub call_reaches : (P : List ℕ → Bool) (kind : CallKind) (span : Span) (name : Ident) (as' : List ArgPair) (es : List ExprPair) (on_top : Bool) (context : TypeEnv) → EachReaches P context (map (λ (a : ArgPair). a.1) as')
-    → EachReaches P context es → IfCalls kind ((f : Function) → as_function (item_named name.name context.known.whole.items) ≡ Some f → InstancesReach P context.known f.name.name)
+    → EachReaches P context es → IfCalls kind (CalleeReaches P context name.name)
     → AllNamed P (call_typing kind span name as' es on_top context).reached
 call_reaches P Calls span name as' es on_top context h k f =
     function_reaches P span context name (given_parametric_args context as') es (all_alone context es)

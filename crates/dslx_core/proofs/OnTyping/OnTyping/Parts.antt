@@ -29,14 +29,15 @@ join P (x ∷ xs) ys h k = (h.0, join P xs ys h.1 k)
 pub join_three : (P : List ℕ → Bool) (xs ys zs : List Instance) → AllNamed P xs → AllNamed P ys → AllNamed P zs → AllNamed P ((xs ++ ys) ++ zs)
 join_three P xs ys zs h k l = join P (xs ++ ys) zs (join P xs ys h k) l
 
-pub parts : (P : List ℕ → Bool) (known : GlobalEnv) (xs ys : List Mention) → MentionsReach P known (xs ++ ys) → MentionsReach P known xs × MentionsReach P known ys
-parts P known [] ys h = (tt, h)
-parts P known (x ∷ xs) ys h = let r = parts P known xs ys h.1 in ((h.0, r.0), r.1)
+pub parts : (P : List ℕ → Bool) (known : GlobalEnv) (owner : List ℕ) (xs ys : List Mention) → MentionsReach P known owner (xs ++ ys) → MentionsReach P known owner xs × MentionsReach P known owner ys
+parts P known owner [] ys h = (tt, h)
+parts P known owner (x ∷ xs) ys h = let r = parts P known owner xs ys h.1 in ((h.0, r.0), r.1)
 
-pub three_parts : (P : List ℕ → Bool) (known : GlobalEnv) (xs ys zs : List Mention) → MentionsReach P known ((xs ++ ys) ++ zs) → MentionsReach P known xs × MentionsReach P known ys × MentionsReach P known zs
-three_parts P known xs ys zs h =
-    let r = parts P known (xs ++ ys) zs h in
-    let q = parts P known xs ys r.0 in
+pub three_parts : (P : List ℕ → Bool) (known : GlobalEnv) (owner : List ℕ) (xs ys zs : List Mention) → MentionsReach P known owner ((xs ++ ys) ++ zs)
+    → MentionsReach P known owner xs × MentionsReach P known owner ys × MentionsReach P known owner zs
+three_parts P known owner xs ys zs h =
+    let r = parts P known owner (xs ++ ys) zs h in
+    let q = parts P known owner xs ys r.0 in
     (q.0, q.1, r.1)
 
 -- ---- expressions as what is around them sees them
@@ -133,22 +134,23 @@ member_reaches P context e a = by_enum (as_enum (item_named e.name context.known
 
 -- an expression, a block, and what is judged like a type
 abbrev pub Reaches : (List ℕ → Bool) → ExprTyping → Mentions → Type 0
-Reaches P j ms = (bound : List (List ℕ)) (on_top : Bool) (context : TypeEnv) → MentionsReach P context.known (ms bound) → AllNamed P (j on_top context).reached
+Reaches P j ms = (bound : List (List ℕ)) (on_top : Bool) (context : TypeEnv) → MentionsReach P context.known context.owner (ms bound) → AllNamed P (j on_top context).reached
 
 abbrev pub TypeReaches : (List ℕ → Bool) → TypeExprTyping → Mentions → Type 0
-TypeReaches P j ms = (bound : List (List ℕ)) (context : TypeEnv) → MentionsReach P context.known (ms bound) → AllNamed P (j context).reached
+TypeReaches P j ms = (bound : List (List ℕ)) (context : TypeEnv) → MentionsReach P context.known context.owner (ms bound) → AllNamed P (j context).reached
 
 abbrev pub PatternReaches : (List ℕ → Bool) → PatternTyping → NamesBound → Type 0
-PatternReaches P p n = (bound : List (List ℕ)) (may_fail : Bool) (context : TypeEnv) (t : Option DslxType) (names : List (List ℕ)) (locals : List Typed) → MentionsReach P context.known (n.mentions bound)
+PatternReaches P p n = (bound : List (List ℕ)) (may_fail : Bool) (context : TypeEnv) (t : Option DslxType) (names : List (List ℕ)) (locals : List Typed) → MentionsReach P context.known context.owner (n.mentions bound)
     → AllNamed P (p may_fail context t names locals).reached
 
 pub record StatementReaches (P : List ℕ → Bool) (s : StatementTyping) (n : NamesBound) : Type 0 where
   pub known : (on_top : Bool) (context : TypeEnv) → (s on_top context).context.known ≡ context.known
-  pub reached : (bound : List (List ℕ)) (on_top : Bool) (context : TypeEnv) → MentionsReach P context.known (n.mentions bound) → AllNamed P (s on_top context).reached
+  pub owner : (on_top : Bool) (context : TypeEnv) → (s on_top context).context.owner ≡ context.owner
+  pub reached : (bound : List (List ℕ)) (on_top : Bool) (context : TypeEnv) → MentionsReach P context.known context.owner (n.mentions bound) → AllNamed P (s on_top context).reached
 
 abbrev pub FieldReaches : (List ℕ → Bool) → FieldSeen → Mentions → Type 0
-FieldReaches P f ms = (bound : List (List ℕ)) (context : TypeEnv) (struct : Option DslxType) → MentionsReach P context.known (ms bound) → AllNamed P (field_typing context struct f).reached
+FieldReaches P f ms = (bound : List (List ℕ)) (context : TypeEnv) (struct : Option DslxType) → MentionsReach P context.known context.owner (ms bound) → AllNamed P (field_typing context struct f).reached
 
 abbrev pub ArmReaches : (List ℕ → Bool) → ArmSeen → Mentions → Type 0
-ArmReaches P a ms = (bound : List (List ℕ)) (context : TypeEnv) (t : Option DslxType) → MentionsReach P context.known (ms bound)
+ArmReaches P a ms = (bound : List (List ℕ)) (context : TypeEnv) (t : Option DslxType) → MentionsReach P context.known context.owner (ms bound)
     → AllNamed P ((arm_typing context t a).seen.reached ++ (arm_typing context t a).value.reached)

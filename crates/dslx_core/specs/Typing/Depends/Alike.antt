@@ -1,5 +1,5 @@
 -- Items of a text on which two global environments agree.
-use Rattle.std.specs.Prelude.{◌≡◌, ℕ, List, [], ◌∷◌, Bool, true, Option, Some}
+use Rattle.std.specs.Prelude.{◌≡◌, ℕ, List, [], ◌∷◌, Bool, true, false, Option, Some}
 use Rattle.dslx_tree.specs.declared.item.Enum.{Enum}
 use Rattle.dslx_tree.specs.declared.item.Function.{Function}
 use Rattle.dslx_meaning.specs.Items.{as_enum, as_function, item_named}
@@ -18,6 +18,12 @@ in_globals context known = record context { known = known }
 pub record DeclaredAlike (a b : GlobalEnv) (owner : List ℕ) : Type 0 where
   pub parameter : (before : List (Option DslxValue)) → a.parameter_in owner before ≡ b.parameter_in owner before
   pub default : (before : List (Option DslxValue)) → a.default_in owner before ≡ b.default_in owner before
+  pub signature : (values : List (Option DslxValue)) → a.signature_in owner values ≡ b.signature_in owner values
+
+-- of a function of the own group, whose calls rule 3 refuses, types and values alone are looked at
+pub record TypesAlike (a b : GlobalEnv) (owner : List ℕ) : Type 0 where
+  pub parameter : (before : List (Option DslxValue)) → (a.parameter_in owner before).ty ≡ (b.parameter_in owner before).ty
+  pub default : (before : List (Option DslxValue)) → (a.default_in owner before).value ≡ (b.default_in owner before).value
   pub signature : (values : List (Option DslxValue)) → a.signature_in owner values ≡ b.signature_in owner values
 
 -- a function: what it declares, and how large its instances are
@@ -47,9 +53,24 @@ UseAlike a b AsProc name = Unit {0}
 UseAlike a b AsEnum name = EnumAlike a b name
 UseAlike a b AsStruct name = a.items.struct_named name ≡ b.items.struct_named name
 
-abbrev pub MentionsAlike : GlobalEnv → GlobalEnv → List Mention → Type 0
-MentionsAlike a b [] = Unit {0}
-MentionsAlike a b (m ∷ ms) = UseAlike a b m.use_as m.name × MentionsAlike a b ms
+-- a function by its name, as the text of an item sees it
+pub record CalleeAlikeFrom (a b : GlobalEnv) (owner name : List ℕ) : Type 0 where
+  pub call : (parametric_args operands : List DslxValue) → a.items.call name parametric_args operands ≡ b.items.call name parametric_args operands
+  pub types : (f : Function) → as_function (item_named name a.whole.items) ≡ Some f → TypesAlike a b f.name.name
+  pub function : a.is_cyclic owner name ≡ false → (f : Function) → as_function (item_named name a.whole.items) ≡ Some f → FunctionAlike a b f
+
+abbrev pub SeenAlike : GlobalEnv → GlobalEnv → List ℕ → Use → List ℕ → Type 0
+SeenAlike a b owner AsValue name = UseAlike a b AsValue name
+SeenAlike a b owner AsPattern name = UseAlike a b AsPattern name
+SeenAlike a b owner AsType name = UseAlike a b AsType name
+SeenAlike a b owner AsFunction name = CalleeAlikeFrom a b owner name
+SeenAlike a b owner AsProc name = UseAlike a b AsProc name
+SeenAlike a b owner AsEnum name = UseAlike a b AsEnum name
+SeenAlike a b owner AsStruct name = UseAlike a b AsStruct name
+
+abbrev pub MentionsAlike : GlobalEnv → GlobalEnv → List ℕ → List Mention → Type 0
+MentionsAlike a b owner [] = Unit {0}
+MentionsAlike a b owner (m ∷ ms) = SeenAlike a b owner m.use_as m.name × MentionsAlike a b owner ms
 
 -- names that are bound, and so aren't mentioned: the constants of these names, if they are any
 abbrev pub NamesAlike : GlobalEnv → GlobalEnv → List (List ℕ) → Type 0
@@ -70,5 +91,5 @@ pub record SeesAlike (P : List ℕ → Bool) (bound : List (List ℕ)) (owner : 
   pub known : GlobalsAgree P a b
   pub enums : (name member : List ℕ) → item_reaches a.whole owner name ≡ true → a.items.member name member ≡ b.items.member name member
   pub hidden : NamesAlike a b bound
-  pub reach : MentionsReach P a ms
-  pub alike : MentionsAlike a b ms
+  pub reach : MentionsReach P a owner ms
+  pub alike : MentionsAlike a b owner ms

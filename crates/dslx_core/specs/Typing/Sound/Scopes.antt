@@ -37,8 +37,8 @@ pub record IsWellTypedPattern (context : TypeEnv) (seen : PatternSeen) : Type 0 
 -- a value fits in both or in neither, and behind the pattern all but locals are bound alike again: in two environments, behind the names
 -- of the whole pattern that are bound so far
 abbrev pub PatternSeesAlike : PatternTyping → PatternDen → Type 0
-PatternSeesAlike p meaning = (may_fail : Bool) (context : TypeEnv) (t : Option DslxType) (names : List (List ℕ)) (locals : List Typed) (place other a b : Env) (v : DslxValue) → SeeAlike context place other → SeeAlike context a b
-    → IsWellTypedPattern context (p may_fail context t names locals) → FitsAlike context (meaning.fits place v a) (meaning.fits other v b)
+PatternSeesAlike p meaning = (may_fail : Bool) (context : TypeEnv) (t : Option DslxType) (names : List (List ℕ)) (locals : List Typed) (scope other a b : Env) (v : DslxValue) → SeeAlike context scope other → SeeAlike context a b
+    → IsWellTypedPattern context (p may_fail context t names locals) → FitsAlike context (meaning.fits scope v a) (meaning.fits other v b)
 
 -- each pattern, beside what its tree denotes
 abbrev pub EachPatternSeesAlike : List PatternPair → List PatternDen → Type 0

@@ -112,8 +112,8 @@ pub record PatternGives (p : PatternTyping) (meaning : PatternDen) : Type 0 wher
   pub unbound : (may_fail : Bool) (context : TypeEnv) (t : Option DslxType) (names : List (List ℕ)) (locals : List Typed) → is_empty (p may_fail context t names locals).names ≡ true
       → ((p may_fail context t names locals).locals ≡ locals) × (is_empty names ≡ true)
   -- against what is no tuple it binds nothing, or it fits
-  pub whole : (may_fail : Bool) (context : TypeEnv) (t : DslxType) (names : List (List ℕ)) (locals : List Typed) (place env : Env) (v : DslxValue) → is_some_tuple (out-DslxType t) ≡ false → IsWellTypedEnv (with_typed context locals) env
-      → has_broken (p may_fail context (Some t) names locals).faults ≡ false → (list_all context.known.items.is_constant meaning.names || is_there (meaning.fits place v env)) ≡ true
+  pub whole : (may_fail : Bool) (context : TypeEnv) (t : DslxType) (names : List (List ℕ)) (locals : List Typed) (scope env : Env) (v : DslxValue) → is_some_tuple (out-DslxType t) ≡ false → IsWellTypedEnv (with_typed context locals) env
+      → has_broken (p may_fail context (Some t) names locals).faults ≡ false → (list_all context.known.items.is_constant meaning.names || is_there (meaning.fits scope v env)) ≡ true
 
 abbrev pub EachPatternGives : List PatternPair → List PatternDen → Type 0
 EachPatternGives [] [] = Unit {0}

@@ -60,9 +60,9 @@ pub data FitsOrFails (may_fail : Bool) (context : TypeEnv) (seen : PatternSeen) 
 
 -- of a pattern that breaks no rule, in a pattern in an environment, whose other names are bound so far
 abbrev pub PatternKeeps : PatternTyping → MatchDen → Type 0
-PatternKeeps p fits = (may_fail : Bool) (context : TypeEnv) (t : DslxType) (names : List (List ℕ)) (locals : List Typed) (place env : Env) (v : DslxValue)
-    → IsWellTypedEnv context place → IsWellTypedEnv (with_typed context locals) env → GivesOf (types_at context) t (Some v) → has_broken (p may_fail context (Some t) names locals).faults ≡ false
-    → FitsOrFails may_fail context (p may_fail context (Some t) names locals) (fits place v env)
+PatternKeeps p fits = (may_fail : Bool) (context : TypeEnv) (t : DslxType) (names : List (List ℕ)) (locals : List Typed) (scope env : Env) (v : DslxValue)
+    → IsWellTypedEnv context scope → IsWellTypedEnv (with_typed context locals) env → GivesOf (types_at context) t (Some v) → has_broken (p may_fail context (Some t) names locals).faults ≡ false
+    → FitsOrFails may_fail context (p may_fail context (Some t) names locals) (fits scope v env)
 
 -- each pattern keeps the type environment well typed
 abbrev pub EachKeeps : List PatternPair → List PatternDen → Type 0

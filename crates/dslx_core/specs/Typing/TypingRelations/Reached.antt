@@ -1,5 +1,5 @@
 -- What the parts of a text reach, by the functions that they mention.
-use Rattle.std.specs.Prelude.{◌≡◌, ℕ, List, [], ◌∷◌, Bool, true, Option, Some}
+use Rattle.std.specs.Prelude.{◌≡◌, ℕ, List, [], ◌∷◌, Bool, true, false, Option, Some}
 use Rattle.std.specs.List.{list_all}
 use Rattle.dslx_tree.specs.declared.item.Function.{Function}
 use Rattle.dslx_tree.specs.declared.item.Module.{Module}
@@ -25,15 +25,16 @@ pub record InstancesReach (P : List ℕ → Bool) (known : GlobalEnv) (owner : L
   pub own : P owner ≡ true
   pub declared : DeclarationReaches P known owner
 
-abbrev pub MentionReaches : (List ℕ → Bool) → GlobalEnv → Use → List ℕ → Type 0
-MentionReaches P known AsFunction name = (f : Function) → as_function (item_named name known.whole.items) ≡ Some f → InstancesReach P known f.name.name
-MentionReaches P known AsProc name = (p : Proc) → as_proc (item_named name known.whole.items) ≡ Some p → InstancesReach P known p.name.name
-MentionReaches P known _ name = Unit {0}
+-- a mention in the text of this item, where rule 3 doesn't refuse it
+abbrev pub MentionReaches : (List ℕ → Bool) → GlobalEnv → List ℕ → Use → List ℕ → Type 0
+MentionReaches P known owner AsFunction name = known.is_cyclic owner name ≡ false → (f : Function) → as_function (item_named name known.whole.items) ≡ Some f → InstancesReach P known f.name.name
+MentionReaches P known owner AsProc name = (p : Proc) → as_proc (item_named name known.whole.items) ≡ Some p → known.is_cyclic owner p.name.name ≡ false → InstancesReach P known p.name.name
+MentionReaches P known owner _ name = Unit {0}
 
 -- so it is with each function and each proc that is mentioned
-abbrev pub MentionsReach : (List ℕ → Bool) → GlobalEnv → List Mention → Type 0
-MentionsReach P known [] = Unit {0}
-MentionsReach P known (m ∷ ms) = MentionReaches P known m.use_as m.name × MentionsReach P known ms
+abbrev pub MentionsReach : (List ℕ → Bool) → GlobalEnv → List ℕ → List Mention → Type 0
+MentionsReach P known owner [] = Unit {0}
+MentionsReach P known owner (m ∷ ms) = MentionReaches P known owner m.use_as m.name × MentionsReach P known owner ms
 
 -- where an item's name passes the test, so does the name of each item that it mentions
 abbrev pub IsClosed : (List ℕ → Bool) → Module → Type 0

@@ -1,6 +1,5 @@
 ghost use Rattle.dslx_core.specs.Typing.Depends.Alike.{SeesAlike, UseAlike, in_globals};
 ghost use Rattle.dslx_core.specs.Typing.Depends.Settled.{BindsNoConstant};
-ghost use Rattle.dslx_core.specs.Typing.Laws.Recursion.{HasNoCycle};
 ghost use Rattle.dslx_meaning.specs.Items.{as_function, item_named};
 ghost use Rattle.dslx_meaning.specs.Rules.TypeEnvs.{Instance, GlobalEnv, TypeEnv};
 ghost use Rattle.dslx_meaning.specs.Rules.Mentions.{Use, mentioned, mentioned_in_block, mentioned_in_type};
@@ -11,7 +10,7 @@ ghost use Rattle.dslx_tree.specs.declared.expr.Expr.{Expr};
 ghost use Rattle.dslx_tree.specs.declared.item.Function.{Function};
 ghost use Rattle.dslx_tree.specs.declared.item.Module.{Module};
 ghost use Rattle.dslx_tree.specs.declared.type_expr.TypeExpr.{TypeExpr};
-ghost use Rattle.std.specs.Prelude.{◌≡◌, ◌≤◌, Bool, List, ℕ, Some, length};
+ghost use Rattle.std.specs.Prelude.{◌≡◌, ◌≤◌, ◌*◌, Bool, List, ℕ, Some, length};
 
 /// Where two global environments agree on what a part of a text mentions, on the enums that its item reaches, and on the
 /// constants that bound names hide, the part has one judgement by both: its type, what it breaks and passes, the instances
@@ -25,13 +24,13 @@ pub fn a_judgement_depends_on_what_is_mentioned()
         → SeesAlike P bound context.owner context.known other (mentioned_in_type t bound) → (type_pair t).1 context ≡ (type_pair t).1 (in_globals context other) }
 {}
 
-/// Where no item reaches itself and no function binds the name of a constant, global environments settle: by chains of as many
-/// items as the text has, and by all longer ones, they have the same of each constant, type, enum and function, and of the
+/// Where no function binds the name of a constant, global environments settle, whatever reaches itself: by chains of twice as many
+/// links as the text has items, and by all longer ones, they have the same of each constant, type, enum and function, and of the
 /// instances of functions.
 pub fn what_is_known_settles()
-    ensures items { (m : Module) → HasNoCycle m → BindsNoConstant m → (a b : ℕ) → length m.items ≤ a → length m.items ≤ b
+    ensures items { (m : Module) → BindsNoConstant m → (a b : ℕ) → 2 * length m.items ≤ a → 2 * length m.items ≤ b
         → (u : Use) (name : List ℕ) → UseAlike (globals_within m a) (globals_within m b) u name }
-    ensures instances { (m : Module) → HasNoCycle m → BindsNoConstant m → (a b : ℕ) → length m.items ≤ a → length m.items ≤ b
+    ensures instances { (m : Module) → BindsNoConstant m → (a b : ℕ) → 2 * length m.items ≤ a → 2 * length m.items ≤ b
         → (i : Instance) (f : Function) → as_function (item_named i.name m.items) ≡ Some f
         → ((globals_within m a).is_sound i ≡ (globals_within m b).is_sound i) × ((globals_within m a).is_unbroken i ≡ (globals_within m b).is_unbroken i) }
 {}

@@ -13,7 +13,7 @@ returns-clause-configs c = λ m top free plain procs faults p parametric_args ch
     let denotation = c.items_of_accepted_texts_are_well_typed.ensures.denotation m top free plain faults in
     let complete = c.all_items_are_known.ensures.complete m free plain well_typed in
     let typed = c.all_items_are_known.ensures.typed m free plain well_typed in
-    let s = accepted m top free plain faults (c.instances_reach_one_another.ensures.text m top free) (c.instances_reach_one_another.ensures.outside m top) in
+    let s = accepted m top free plain faults (c.instances_reach_one_another.ensures.text m top) (c.instances_reach_one_another.ensures.outside m top) in
     let there = is_there m top s (meanings_of m) denotation p parametric_args checked in
     subst (λ (x : Meanings). ConfigLowers m x top p parametric_args) denotation (config_lowers_to m top s procs complete typed c.lower_total_written_types.ensures p parametric_args there)
 
@@ -23,5 +23,5 @@ returns-clause-tops c = λ m top free plain procs faults p e.
     let denotation = c.items_of_accepted_texts_are_well_typed.ensures.denotation m top free plain faults in
     let complete = c.all_items_are_known.ensures.complete m free plain well_typed in
     let typed = c.all_items_are_known.ensures.typed m free plain well_typed in
-    let s = accepted m top free plain faults (c.instances_reach_one_another.ensures.text m top free) (c.instances_reach_one_another.ensures.outside m top) in
+    let s = accepted m top free plain faults (c.instances_reach_one_another.ensures.text m top) (c.instances_reach_one_another.ensures.outside m top) in
     subst (λ (x : Meanings). TopLowers m x top p) denotation (top_lowers_to m top s procs complete typed c.lower_total_written_types.ensures p e)

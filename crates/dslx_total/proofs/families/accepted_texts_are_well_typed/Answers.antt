@@ -1,4 +1,4 @@
-use Rattle.std.proofs.Common.{length, subst}
+use Rattle.std.proofs.Common.{◌*◌, length, subst}
 use Rattle.dslx_meaning.specs.Environment.{Meanings}
 use Rattle.dslx_meaning.specs.Network.{outer_ends, elaborate_within, top_parametric_args}
 use Rattle.dslx_meaning.specs.Rules.ModuleRules.{globals_of}
@@ -16,12 +16,12 @@ returns-clause-well_typed c = λ m top free plain procs accepted.
     let denotation = c.items_of_accepted_texts_are_well_typed.ensures.denotation m top free plain accepted in
     let complete = c.all_items_are_known.ensures.complete m free plain well_typed in
     let typed = c.all_items_are_known.ensures.typed m free plain well_typed in
-    let names = names_have_widths c.lower_total_expression.ensures.wide m (length m.items) in
+    let names = names_have_widths c.lower_total_expression.ensures.wide m (2 * length m.items) in
     let s : IsAccepted m top = record {
       free = free;
       plain = plain;
       faults = accepted;
-      among = c.instances_reach_one_another.ensures.text m top free;
+      among = c.instances_reach_one_another.ensures.text m top;
       outside = c.instances_reach_one_another.ensures.outside m top;
     } in
     record {

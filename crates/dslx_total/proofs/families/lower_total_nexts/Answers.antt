@@ -1,4 +1,4 @@
-use Rattle.std.proofs.Common.{length, subst}
+use Rattle.std.proofs.Common.{◌*◌, length, subst}
 use Rattle.dslx_meaning.specs.Environment.{Meanings}
 use Rattle.dslx_meaning.specs.Network.{outer_ends, elaborate_within, top_parametric_args}
 use Rattle.dslx_meaning.specs.Rules.ModuleRules.{globals_of}
@@ -9,6 +9,7 @@ use Rattle.dslx_total.proofs.OnFamilies.Families.{all_elaborated}
 use Rattle.dslx_total.proofs.OnFamilies.Nexts.{next_lowers_to}
 use Rattle.dslx_total.proofs.OnFamilies.Reached.{all}
 use Rattle.dslx_total.proofs.OnFamilies.Tops.{top_there}
+use Rattle.dslx_total.proofs.OnNets.Full.{names_are_full}
 use Rattle.dslx_total.proofs.families.lower_total_nexts.Goals as goal
 
 pub returns : goal.returns
@@ -17,12 +18,14 @@ returns c m top free plain procs accepted functions p e =
     let denotation = c.items_of_accepted_texts_are_well_typed.ensures.denotation m top free plain accepted in
     let complete = c.all_items_are_known.ensures.complete m free plain well_typed in
     let typed = c.all_items_are_known.ensures.typed m free plain well_typed in
-    let names = names_have_widths c.lower_total_expression.ensures.wide m (length m.items) in
+    let wide = names_have_widths c.lower_total_expression.ensures.wide m in
+    let names = wide (2 * length m.items) in
+    let full = names_are_full m wide (2 * length m.items) in
     let s : IsAccepted m top = record {
       free = free;
       plain = plain;
       faults = accepted;
-      among = c.instances_reach_one_another.ensures.text m top free;
+      among = c.instances_reach_one_another.ensures.text m top;
       outside = c.instances_reach_one_another.ensures.outside m top;
     } in
     let t = top_there m top s procs complete typed p e in
@@ -32,5 +35,5 @@ returns c m top free plain procs accepted functions p e =
     let Q = NextLowers m functions.known.table in
     subst (λ (x : Meanings). EachElaborated Q (elaborate_within m x (length m.items) p.name.name p (top_parametric_args x p) (outer_ends 0 p.config.ends) (length p.config.ends)).procs) denotation
     (all_elaborated m top s procs complete typed names words.values Q
-    (next_lowers_to m top s complete typed names words.widths c.members_stand.ensures c.lower_total_next.ensures denotation functions) (length m.items) p.name.name p parametric_args (outer_ends 0 p.config.ends) (length p.config.ends)
+    (next_lowers_to m top s complete typed names full words.widths c.members_stand.ensures c.lower_total_next.ensures denotation functions) (length m.items) p.name.name p parametric_args (outer_ends 0 p.config.ends) (length p.config.ends)
     (record { checked = record { named = t.named; among = one_of_these (record { name = p.name.name; parametric_args = parametric_args }) (all m top s) t.among }; own = t.own }))

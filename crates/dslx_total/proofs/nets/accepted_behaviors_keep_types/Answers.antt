@@ -1,4 +1,4 @@
-use Rattle.std.proofs.Common.{length, subst, sym, ap}
+use Rattle.std.proofs.Common.{◌*◌, length, subst, sym, ap}
 use Rattle.net_core.specs.WellFormed.{EachKeepsTypes}
 use Rattle.dslx_meaning.specs.Environment.{Meanings}
 use Rattle.dslx_meaning.specs.Network.{behaviors_if}
@@ -19,9 +19,9 @@ returns c m top free plain procs faults =
     let complete = c.all_items_are_known.ensures.complete m free plain well_typed in
     let typed = c.all_items_are_known.ensures.typed m free plain well_typed in
     let wide = names_have_widths type_is_wide m in
-    let names = wide (length m.items) in
-    let full = names_are_full m wide (length m.items) in
-    let s = accepted m top free plain faults (c.instances_reach_one_another.ensures.text m top free) (c.instances_reach_one_another.ensures.outside m top) in
+    let names = wide (2 * length m.items) in
+    let full = names_are_full m wide (2 * length m.items) in
+    let s = accepted m top free plain faults (c.instances_reach_one_another.ensures.text m top) (c.instances_reach_one_another.ensures.outside m top) in
     let words = c.words_of_ends_have_widths.ensures.values in
     let t = top_there m top faults in
     let p = t.0 in

@@ -1,4 +1,4 @@
-use Rattle.std.proofs.Common.{◌≡◌, List, length, Some, subst, sym, ap}
+use Rattle.std.proofs.Common.{◌*◌, ◌≡◌, List, length, Some, subst, sym, ap}
 use Rattle.net_core.specs.WellFormed.{IsNet}
 use Rattle.net_core.specs.declared.net.Net.{Net}
 use Rattle.dslx_tree.specs.declared.process.Proc.{Proc}
@@ -28,12 +28,12 @@ returns-clause-numbered c = λ m top free plain procs kept.
     let complete = c.all_items_are_known.ensures.complete m free plain well_typed in
     let typed = c.all_items_are_known.ensures.typed m free plain well_typed in
     let wide = names_have_widths type_is_wide m in
-    let s = accepted m top free plain faults (c.instances_reach_one_another.ensures.text m top free) (c.instances_reach_one_another.ensures.outside m top) in
+    let s = accepted m top free plain faults (c.instances_reach_one_another.ensures.text m top) (c.instances_reach_one_another.ensures.outside m top) in
     let nexts : (q : Proc) (args : List DslxValue) → IsThere m top s q args → (u : DslxType) → state_type_of (globals_of m).items q args ≡ Some u → IsWellTypedNext (globals_of m) q args u = λ q args there u is.
-    let k = well_typed_proc m top s procs complete typed (wide (length m.items)) c.words_of_ends_have_widths.ensures.values q args there in
+    let k = well_typed_proc m top s procs complete typed (wide (2 * length m.items)) c.words_of_ends_have_widths.ensures.values q args there in
     c.well_typed_procs_have_well_typed_nexts.ensures (globals_of m) complete typed q args k.own k.found k.words u is in
     let t = top_there m top faults in
-    let w = whole_fits m top s procs complete typed (wide (length m.items)) (names_are_full m wide (length m.items)) nexts t.0 t.1 (c.items_of_accepted_texts_are_well_typed.ensures.denotation m top free plain faults)
+    let w = whole_fits m top s procs complete typed (wide (2 * length m.items)) (names_are_full m wide (2 * length m.items)) nexts t.0 t.1 (c.items_of_accepted_texts_are_well_typed.ensures.denotation m top free plain faults)
     (c.networks_keep_the_limits.ensures.procs m top free plain procs kept) (c.networks_keep_the_limits.ensures.channels m top free plain procs kept) in
     subst (λ (net : Net). IsNet (numbered net)) (sym (ap (net_if m) t.1)) (numbered_is_net (net_over m (meanings_of m) t.0) w.0)
 
@@ -44,11 +44,11 @@ returns-clause-named c = λ m top free plain procs slashes kept.
     let complete = c.all_items_are_known.ensures.complete m free plain well_typed in
     let typed = c.all_items_are_known.ensures.typed m free plain well_typed in
     let wide = names_have_widths type_is_wide m in
-    let s = accepted m top free plain faults (c.instances_reach_one_another.ensures.text m top free) (c.instances_reach_one_another.ensures.outside m top) in
+    let s = accepted m top free plain faults (c.instances_reach_one_another.ensures.text m top) (c.instances_reach_one_another.ensures.outside m top) in
     let nexts : (q : Proc) (args : List DslxValue) → IsThere m top s q args → (u : DslxType) → state_type_of (globals_of m).items q args ≡ Some u → IsWellTypedNext (globals_of m) q args u = λ q args there u is.
-    let k = well_typed_proc m top s procs complete typed (wide (length m.items)) c.words_of_ends_have_widths.ensures.values q args there in
+    let k = well_typed_proc m top s procs complete typed (wide (2 * length m.items)) c.words_of_ends_have_widths.ensures.values q args there in
     c.well_typed_procs_have_well_typed_nexts.ensures (globals_of m) complete typed q args k.own k.found k.words u is in
     let t = top_there m top faults in
-    let w = whole_fits m top s procs complete typed (wide (length m.items)) (names_are_full m wide (length m.items)) nexts t.0 t.1 (c.items_of_accepted_texts_are_well_typed.ensures.denotation m top free plain faults)
+    let w = whole_fits m top s procs complete typed (wide (2 * length m.items)) (names_are_full m wide (2 * length m.items)) nexts t.0 t.1 (c.items_of_accepted_texts_are_well_typed.ensures.denotation m top free plain faults)
     (c.networks_keep_the_limits.ensures.procs m top free plain procs kept) (c.networks_keep_the_limits.ensures.channels m top free plain procs kept) in
     subst IsNet (sym (ap (net_if m) t.1)) (with_names (net_over m (meanings_of m) t.0) w.0 (w.1 (slashes t.0 t.1)).own)

@@ -26,7 +26,7 @@ or_cases true q e f g = f refl
 or_cases false q e f g = g e
 
 -- what one test says another says
-any_weaker : {X : Type 0} (f g : X → Bool) (xs : List X) → ((x : X) → f x ≡ true → g x ≡ true) → list_any f xs ≡ true → list_any g xs ≡ true
+pub any_weaker : {X : Type 0} (f g : X → Bool) (xs : List X) → ((x : X) → f x ≡ true → g x ≡ true) → list_any f xs ≡ true → list_any g xs ≡ true
 any_weaker f g [] h e = e
 any_weaker f g (x ∷ xs) h e = or_cases (f x) (list_any f xs) e (λ q. or_first (g x) (list_any g xs) (h x q)) (λ q. or_second (g x) (list_any g xs) (any_weaker f g xs h q))
 
@@ -130,6 +130,13 @@ never_itself m free (suc n) k a s e =
   where
     up : (x : List ℕ) → reaches_within m n x a ≡ true → item_reaches m x a ≡ true
     up x r = let q : suc k + n ≡ length m.items = omega arith in subst (λ j. reaches_within m j x a ≡ true) q (reaches_up m (suc k) n x a r)
+
+pub never_loops : (m : Module) → HasNoCycle m → (a : List ℕ) → item_reaches m a a ≡ false
+never_loops m free a = by_test (item_reaches m a a) refl
+  where
+    by_test : (t : Bool) → item_reaches m a a ≡ t → item_reaches m a a ≡ false
+    by_test true q = absurd (never_itself m free (length m.items) zero a (omega arith) q)
+    by_test false q = q
 
 -- ---- chains
 

@@ -1,5 +1,5 @@
 -- Reaching takes no more mentions than there are items, so that it goes on, and each item has a rank.
-use Rattle.std.proofs.Common.{◌≡◌, ◌≤◌, ◌+◌, ◌⊎◌, inl, inr, ◌&&◌, ◌||◌, ℕ, zero, suc, Bool, true, false, not, if◌then◌else◌, List, [], ◌∷◌, map, length, Option, Some, None, refl, sym, ap, subst, ◌∙◌, arith}
+use Rattle.std.proofs.Common.{◌≡◌, ◌≤◌, ◌+◌, ◌⊎◌, inl, inr, ◌&&◌, ◌||◌, ℕ, zero, suc, Bool, true, false, not, if◌then◌else◌, List, [], ◌∷◌, length, Option, Some, None, refl, sym, ap, subst, ◌∙◌, arith}
 use mathlib.Core.Bool.{true≢false}
 use Rattle.std.specs.Str.{bytes_eq}
 use Rattle.std.specs.List.{list_any}
@@ -14,7 +14,7 @@ use Rattle.dslx_core.proofs.Lemmas.Typing.Laws.Chains.{IsIn, IsItem, cover_moves
 
 -- ---- tests of lists
 
-any_elim : {X : Type 0} (f : List ℕ → Bool) (xs : List (List ℕ)) → list_any f xs ≡ true → ((x : List ℕ) → IsIn x xs → f x ≡ true → X) → X
+pub any_elim : {X : Type 0} (f : List ℕ → Bool) (xs : List (List ℕ)) → list_any f xs ≡ true → ((x : List ℕ) → IsIn x xs → f x ≡ true → X) → X
 any_elim f [] e h = absurd (true≢false (sym e))
 any_elim f (x ∷ xs) e h =
     or_cases (f x) (list_any f xs) e (h x (or_first (bytes_eq x x) (list_any (bytes_eq x) xs) (itself x)))
@@ -30,14 +30,14 @@ none_of_both : (p q : Bool) → (p || q) ≡ false → (p ≡ false) × (q ≡ f
 none_of_both true q e = absurd (true≢false e)
 none_of_both false q e = (refl, e)
 
-both_of : (p q : Bool) → (p && q) ≡ true → (p ≡ true) × (q ≡ true)
+pub both_of : (p q : Bool) → (p && q) ≡ true → (p ≡ true) × (q ≡ true)
 both_of true q e = (refl, e)
 both_of false q e = absurd (true≢false (sym e))
 
 -- ---- what is reached
 
 -- is an item
-reached_is_item : (m : Module) (n : ℕ) (a b : List ℕ) → reaches_within m n a b ≡ true → IsItem m b
+pub reached_is_item : (m : Module) (n : ℕ) (a b : List ℕ) → reaches_within m n a b ≡ true → IsItem m b
 reached_is_item m zero a b e = absurd (true≢false (sym e))
 reached_is_item m (suc n) a b e =
     any_elim (λ next. bytes_eq next b || reaches_within m n next b) (mentions_of m (item_named a m.items)) e
@@ -204,7 +204,7 @@ reaches_on m a b c e f = reaches_bounded m (length m.items + length m.items) a c
 
 -- ---- ranks
 
-above_on : (m : Module) (a b c : List ℕ) → is_above m a b ≡ true → is_above m b c ≡ true → is_above m a c ≡ true
+pub above_on : (m : Module) (a b c : List ℕ) → is_above m a b ≡ true → is_above m b c ≡ true → is_above m a c ≡ true
 above_on m a b c e f =
     let q = both_of (item_reaches m b c) (not (item_reaches m c b)) f in
     λ i. reaches_on m a b c p.0 q.0 i && not_back (item_reaches m c a) refl q.1 i

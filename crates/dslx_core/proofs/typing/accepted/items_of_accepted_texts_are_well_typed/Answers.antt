@@ -7,7 +7,7 @@ returns-clause-well_typed c = λ m top free plain accepted.
       free = free;
       plain = plain;
       faults = accepted;
-      among = c.instances_reach_one_another.ensures.text m top free;
+      among = c.instances_reach_one_another.ensures.text m top;
       outside = c.instances_reach_one_another.ensures.outside m top;
     })
 

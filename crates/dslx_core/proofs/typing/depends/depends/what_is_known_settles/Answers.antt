@@ -1,4 +1,4 @@
-use Rattle.dslx_core.proofs.OnTyping.OnDepends.Stages.{instances_settle, uses_settle}
+use Rattle.dslx_core.proofs.OnTyping.OnDepends.Levels.{instances_settle, uses_settle}
 use Rattle.dslx_core.proofs.typing.depends.depends.what_is_known_settles.Goals as goal
 
 pub returns-clause-items : goal.returns-clause-items

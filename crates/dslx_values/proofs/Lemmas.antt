@@ -1,0 +1,2 @@
+-- lists of which each pair passes a test
+pub mod Pairs
