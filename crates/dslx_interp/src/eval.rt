@@ -9,4 +9,4 @@ mod plan;
 mod task;
 mod value;
 
-pub use value::value_of;
+pub use value::{Found, value_of};

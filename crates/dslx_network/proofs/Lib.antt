@@ -6,3 +6,5 @@ pub mod OnFamily
 pub mod OnBody
 -- checked texts that are made
 pub mod OnLinked
+-- words that are received in these
+pub mod OnReceived

@@ -265,11 +265,11 @@ AllLowered : Module → List ProcInstance → Type 0
 AllLowered m is = (k : ℕ) (i : ProcInstance) → slice_get is k ≡ Some i → IsLowered m is i
 
 -- what stands in a list with one more
-data OneMore {A : Type 0} (xs : List A) (x : A) (k : ℕ) (y : A) : Type 0 where
+pub data OneMore {A : Type 0} (xs : List A) (x : A) (k : ℕ) (y : A) : Type 0 where
   Earlier : slice_get xs k ≡ Some y → OneMore xs x k y
   Final : y ≡ x → OneMore xs x k y
 
-there_or_last : {A : Type 0} (xs : List A) (x : A) (k : ℕ) (y : A) → slice_get (xs ++ x ∷ []) k ≡ Some y → OneMore xs x k y
+pub there_or_last : {A : Type 0} (xs : List A) (x : A) (k : ℕ) (y : A) → slice_get (xs ++ x ∷ []) k ≡ Some y → OneMore xs x k y
 there_or_last [] x zero y e = Final (sym (same_some x y e))
 there_or_last [] x (suc k) y e = none_some y e
 there_or_last (z ∷ xs) x zero y e = Earlier e
@@ -314,7 +314,7 @@ alone_there (x ∷ is) zero i e = ap (λ (y : ProcInstance). Some y.instance) (s
 alone_there (x ∷ is) (suc k) i e = alone_there is k i e
 
 -- an instance of the checked text, with its name
-not_alone : (is : List ProcInstance) (k : ℕ) (x : Instance) → slice_get (instances_alone is) k ≡ Some x → (i : ProcInstance) × (slice_get is k ≡ Some i) × (i.instance ≡ x)
+pub not_alone : (is : List ProcInstance) (k : ℕ) (x : Instance) → slice_get (instances_alone is) k ≡ Some x → (i : ProcInstance) × (slice_get is k ≡ Some i) × (i.instance ≡ x)
 not_alone [] k x e = none_some x e
 not_alone (y ∷ is) zero x e = (y, refl, same_some (y.instance) x e)
 not_alone (y ∷ is) (suc k) x e = not_alone is k x e

@@ -1,5 +1,6 @@
 -- Procs of checked texts of which there can be bodies.
-use Rattle.std.specs.Prelude.{ℕ, [], get_or, Bool, true, Option, Some}
+use Rattle.std.specs.Prelude.{◌≡◌, ℕ, [], get_or, Bool, true, IsTrue, Option, Some, slice_get}
+use Rattle.std.specs.List.{list_all}
 use Rattle.net_core.specs.Behavior.{Behavior}
 use Rattle.dslx_core.specs.Designs.{CoreElaborated, core_behavior, core_family}
 use Rattle.dslx_core.specs.declared.design.Design.{Design}
@@ -13,6 +14,10 @@ abbrev pub receives_word : Step → Bool
 receives_word (step.Bind e shape) = true
 receives_word (step.Receive r) = fits_word r.word
 receives_word (step.Send s) = true
+
+-- so it is with all steps of a checked text
+abbrev pub ReceivesWords : Design → Type 0
+ReceivesWords design = (k : ℕ) (i : Instance) → slice_get design.procs k ≡ Some i → IsTrue (list_all receives_word i.steps)
 
 -- the instance of a proc, as one among those of the text
 abbrev pub own_instance : CoreElaborated → Option Instance

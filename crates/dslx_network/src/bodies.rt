@@ -1,11 +1,10 @@
 //! All procs of a network as bodies.
 
-ghost use Rattle.std.specs.Prelude.{ℕ, ◌≡◌, ◌<◌, ◌^◌, Some, length, map, slice_get, IfOk, IsTrue};
-ghost use Rattle.std.specs.List.{list_all};
+ghost use Rattle.std.specs.Prelude.{◌≡◌, ◌<◌, ◌^◌, Some, length, map, slice_get, IfOk};
 ghost use Rattle.net_core.specs.WellFormed.{EachKeepsTypes};
-ghost use Rattle.dslx_core.specs.Designs.{CoreElaborated, core_behaviors, core_family};
+ghost use Rattle.dslx_core.specs.Designs.{core_behaviors, core_family};
 ghost use Rattle.dslx_core.specs.declared.design.Instance.{Instance};
-ghost use Rattle.dslx_network.specs.Bodies.{own_instance, receives_word};
+ghost use Rattle.dslx_network.specs.Bodies.{ReceivesWords, own_instance};
 ghost use Rattle.dslx_network.specs.DslxBodies.{behavior_of};
 
 use crate::body::DslxBody;
@@ -19,7 +18,7 @@ pub fn bodies_of<'a>(
     instances: &[u64],
 ) -> Result<Vec<DslxBody<'a>>, AllocError>
     requires instances { map (slice_get design.now.procs) instances.now ≡ map own_instance (core_family design.now).procs }
-    requires words { (k : ℕ) (p : CoreElaborated) → slice_get (core_family design.now).procs k ≡ Some p → IsTrue (list_all receives_word (p.instance).steps) }
+    requires words { ReceivesWords design.now }
     requires keep { EachKeepsTypes (core_behaviors design.now) }
     requires few { length instances.now < 2 ^ 32 }
     ensures { IfOk result (λ bodies. map behavior_of bodies.items ≡ core_behaviors design.now) }

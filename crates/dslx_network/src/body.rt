@@ -52,7 +52,7 @@ impl Body for DslxBody<'_> {
 
     ghost behavior = { behavior_of };
 
-    /// The steps up to the event are gone through, once each, and at each what is bound before it is copied.
+    /// The steps up to the event are gone through, once each, from a copy of the state.
     fn next(
         &self,
         alloc: Global,

@@ -4,7 +4,7 @@
 //! made. Then the procs are elaborated, each before those that it starts.
 //!
 //! Cost: linear in the checked text, and in the network that is made. A body goes through the steps of the activation from its start to
-//! each event, and copies at each step what is bound there.
+//! each event, and copies the state that it starts from.
 #![tactic(auto)]
 
 mod bodies;

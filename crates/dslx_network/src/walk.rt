@@ -1,13 +1,12 @@
 //! An activation, step by step.
 
-ghost use Rattle.std.specs.Prelude.{ℕ, ◌≡◌, ◌≤◌, ◌+◌, ◌∷◌, [], IfOk, IsTrue, OnOk, Some, unwrap_or};
+ghost use Rattle.std.specs.Prelude.{ℕ, ◌≡◌, ◌≤◌, ◌+◌, ◌∷◌, [], IfOk, IsTrue, OnOk, unwrap_or};
 ghost use Rattle.net_core.specs.declared.event.Event.TheVariants.{End};
-ghost use Rattle.dslx_meaning.specs.Lists.{and_then};
 ghost use Rattle.dslx_core.specs.CoreValues.{core_value};
 ghost use Rattle.dslx_core.specs.Designs.{Behind, condition_at, do_step, functions_from, no_function, receive_if, receive_on, send_if, token, with_token};
 ghost use Rattle.dslx_core.specs.Lowering.Steps.{fits_word};
 ghost use Rattle.dslx_network.specs.Bodies.{receives_word};
-ghost use Rattle.dslx_network.specs.Inner.Walking.{SendsAWord, Goes, BindsOrEnds, bound_then, event_here, give_then, receive_off, send_off};
+ghost use Rattle.dslx_network.specs.Inner.Walking.{SendsAWord, Goes, BindsOrEnds, StandsStillIf, bound_then, event_here, give_then, receive_off, send_off};
 
 use crate::word::{word_at, word_value};
 use dslx_core::{CoreExpr, Function, Receive, Send, Shape, Step};
@@ -73,53 +72,58 @@ impl Walk {
         ensures { IfOk result (λ event. event ≡ End (unwrap_or (core_value next.now (functions_from 0 functions.now no_function) self.bound.items) token)) }
     {
         match value_of(alloc, functions, next, self.bound)? {
-            Some(state) => Ok(Event::End(state)),
+            Some(found) => Ok(Event::End(found.value)),
             None => Ok(ended(alloc)),
         }
     }
 
-    /// The value of an expression.
+    /// The value of an expression. Where it has one, what is bound stays.
     fn value(
-        &self,
+        &mut self,
         alloc: Global,
         functions: &[Function],
         expr: &CoreExpr,
     ) -> Result<Option<Value>, AllocError>
-        ensures { IfOk result (λ v. v ≡ core_value expr.now (functions_from 0 functions.now no_function) self.now.bound.items) }
+        ensures value { IfOk result (λ v. v ≡ core_value expr.now (functions_from 0 functions.now no_function) self.old.bound.items) }
+        ensures stays { IfOk result (λ v. StandsStillIf v self.old self.new) }
     {
-        let bound = copies(alloc, self.bound.as_slice())?;
-        value_of(alloc, functions, expr, bound)
+        let bound = std::mem::replace(&mut self.bound, Vec::new(alloc));
+        match value_of(alloc, functions, expr, bound)? {
+            Some(found) => {
+                self.bound = found.bound;
+                Ok(Some(found.value))
+            }
+            None => Ok(None),
+        }
     }
 
-    /// Whether a condition holds, unless it has no value.
+    /// Whether a condition holds, unless it has no value. Where it does or doesn't, what is bound stays.
     fn condition(
-        &self,
+        &mut self,
         alloc: Global,
         functions: &[Function],
         expr: &CoreExpr,
     ) -> Result<Option<bool>, AllocError>
-        ensures { IfOk result (λ holds. holds ≡ condition_at (functions_from 0 functions.now no_function) expr.now self.now.bound.items) }
+        ensures holds { IfOk result (λ holds. holds ≡ condition_at (functions_from 0 functions.now no_function) expr.now self.old.bound.items) }
+        ensures stays { IfOk result (λ holds. StandsStillIf holds self.old self.new) }
     {
         let value = self.value(alloc, functions, expr)?;
         Ok(condition(&value))
     }
 
-    /// Takes a value apart. The activation ends where it isn't there or doesn't fit.
+    /// Takes a value apart. The activation ends where it doesn't fit.
     fn take(
         &mut self,
         alloc: Global,
         shape: &Shape,
-        value: Option<Value>,
+        value: Value,
     ) -> Result<Option<Event>, AllocError>
         ensures { IfOk result (λ ended. BindsOrEnds shape.now value self.old self.new ended) }
     {
-        match value {
-            Some(value) => if take_apart(alloc, shape, &value, &mut self.bound)? {
-                Ok(None)
-            } else {
-                Ok(Some(ended(alloc)))
-            },
-            None => Ok(Some(ended(alloc))),
+        if take_apart(alloc, shape, &value, &mut self.bound)? {
+            Ok(None)
+        } else {
+            Ok(Some(ended(alloc)))
         }
     }
 
@@ -135,7 +139,9 @@ impl Walk {
     ) -> Result<Option<Event>, AllocError>
         ensures { IfOk result (λ ended. Goes (bound_then (functions_from 0 functions.now no_function) expr.now shape.now) _got.now _done self.old self.new ended) }
     {
-        let value = self.value(alloc, functions, expr)?;
+        let Some(value) = self.value(alloc, functions, expr)? else {
+            return Ok(Some(ended(alloc)));
+        };
         self.take(alloc, shape, value)
     }
 
@@ -188,7 +194,7 @@ impl Walk {
         let value = with_token(alloc, word_value(alloc, &receive.word, word)?)?;
         self.received += 1;
         self.site += 1;
-        self.take(alloc, &receive.shape, Some(value))
+        self.take(alloc, &receive.shape, value)
     }
 
     /// Binds the value that stands for a word where a receive is off.
@@ -203,8 +209,10 @@ impl Walk {
     ) -> Result<Option<Event>, AllocError>
         ensures { IfOk result (λ ended. Goes (receive_off (functions_from 0 functions.now no_function) otherwise.now shape.now) _got.now _done self.old self.new ended) }
     {
-        let value = self.value(alloc, functions, otherwise)?;
-        let pair = pair_of(alloc, value)?;
+        let Some(value) = self.value(alloc, functions, otherwise)? else {
+            return Ok(Some(ended(alloc)));
+        };
+        let pair = with_token(alloc, value)?;
         self.pass()?;
         self.take(alloc, shape, pair)
     }
@@ -243,15 +251,14 @@ impl Walk {
         requires { (rest : Behind) × SendsAWord (event_here (give_then (functions_from 0 functions.now no_function) send.now.word send.now.shape rest) got.now done self.old) }
         ensures { IfOk result (λ ended. Goes (give_then (functions_from 0 functions.now no_function) send.now.word send.now.shape) got.now done self.old self.new ended) }
     {
-        let value = self.value(alloc, functions, &send.word)?;
-        let Some(value) = value else {
+        let Some(value) = self.value(alloc, functions, &send.word)? else {
             return Ok(Some(ended(alloc)));
         };
         if self.site >= done {
             return Ok(Some(Event::Send(self.site, flat(&value))));
         }
         self.site += 1;
-        self.take(alloc, &send.shape, Some(token(alloc)))
+        self.take(alloc, &send.shape, token(alloc))
     }
 
     /// Goes past a send that is off.
@@ -265,7 +272,7 @@ impl Walk {
         ensures { IfOk result (λ ended. Goes (send_off shape.now) _got.now _done self.old self.new ended) }
     {
         self.pass()?;
-        self.take(alloc, shape, Some(token(alloc)))
+        self.take(alloc, shape, token(alloc))
     }
 
     /// Goes past a site. Past 2^32 - 1 sites, of which no network has one, it gives up as for want of memory.
@@ -282,17 +289,6 @@ impl Walk {
     }
 }
 
-/// A copy of each value.
-fn copies(alloc: Global, values: &[Value]) -> Result<Vec<Value>, AllocError>
-    ensures { IfOk result (λ copies. copies.items ≡ values.now) }
-{
-    let mut copies = Vec::new(alloc);
-    'values: for value in values {
-        copies.push(value.copy(alloc)?)?;
-    }
-    Ok(copies)
-}
-
 fn token(alloc: Global) -> Value
     ensures { result ≡ token }
 {
@@ -307,16 +303,6 @@ fn with_token(alloc: Global, value: Value) -> Result<Value, AllocError>
     parts.push(token(alloc))?;
     parts.push(value)?;
     Ok(Value::Tuple(Seq::from_vec(parts)))
-}
-
-/// The same, where there is a value.
-fn pair_of(alloc: Global, value: Option<Value>) -> Result<Option<Value>, AllocError>
-    ensures { IfOk result (λ pair. pair ≡ and_then value (λ v. Some (with_token v))) }
-{
-    match value {
-        Some(value) => Ok(Some(with_token(alloc, value)?)),
-        None => Ok(None),
-    }
 }
 
 /// The end of an activation in which a value is missing.

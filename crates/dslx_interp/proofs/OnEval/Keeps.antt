@@ -19,7 +19,7 @@ use Rattle.dslx_interp.specs.Eval.Inner.Tasks.{PlainTask, ValueDen, EachValueDen
 use Rattle.dslx_interp.specs.Eval.Inner.Machine.{MachineState, todo_with, with_values, begun, entered, inside, tried_by, selected, turned_from, called, callee, chosen_of, off_top, stepped}
 use Rattle.dslx_interp.proofs.OnEval.Calls.{calls_before, body_value, called_gives}
 use Rattle.dslx_interp.proofs.OnEval.Prefixes.{Extends, shape_keeps, first_keeps, extends_on, prefix_left}
-use Rattle.dslx_interp.proofs.OnEval.Options.{in_turn, one_goes, two_goes, three_goes, first_goes, each_goes, all_length}
+use Rattle.dslx_interp.proofs.OnEval.Options.{Answer, in_turn, one_goes, two_goes, three_goes, first_goes, each_goes, all_length}
 
 abbrev pub core_arm_den : Arm → CoreArmDen
 core_arm_den = fold-Arm CoreDen CoreArmDen core_step arm_step
@@ -36,9 +36,9 @@ plain_arm a = record { shapes = (out-Arm a).shapes; value = core_value (out-Arm 
 arm_opened : (a : Arm) → core_arm_den a ≡ plain_arm a
 arm_opened a = fold_out-Arm CoreDen CoreArmDen core_step arm_step a
 
--- what comes of what is still to be done, over the values that were found and what is bound
-abbrev pub answer : List Function → List PlainTask → List Value → Bindings → ℕ → Option Value
-answer fs [] vs bound n = slice_get vs 0
+-- what comes of what is still to be done, over the values that were found and what is bound; and what is bound then
+abbrev pub answer : List Function → List PlainTask → List Value → Bindings → ℕ → Option Answer
+answer fs [] vs bound n = and_then (slice_get vs 0) (λ v. Some (v, bound))
 answer fs (ValueDen e ∷ todo) vs bound n = and_then (core_value e (calls_before fs n) bound) (λ v. answer fs todo (v ∷ vs) bound n)
 answer fs (EachValueDen es ∷ todo) vs bound n = and_then (values_in (map core_value es) (calls_before fs n) bound) (λ ws. answer fs todo (reverse ws ++ vs) bound n)
 answer fs (Operates o ∷ todo) vs bound n = and_then (operated o vs) (λ ws. answer fs todo ws bound n)
@@ -54,11 +54,11 @@ answer fs (Calls f k ∷ todo) vs bound n = and_then (calls_before fs n f (rever
 answer fs (Forgets k ∷ todo) vs bound n = answer fs todo vs (take k bound) n
 answer fs (Returns others k ∷ todo) vs bound n = answer fs todo vs others k
 
-abbrev pub answer_of : MachineState → Option Value
+abbrev pub answer_of : MachineState → Option Answer
 answer_of run = answer run.functions run.todo run.values run.bound run.before
 
 -- what comes behind a value
-abbrev goes_on : MachineState → List Value → Option Value
+abbrev goes_on : MachineState → List Value → Option Answer
 goes_on run vs = answer run.functions run.todo vs run.bound run.before
 
 abbrev calls_in : MachineState → Functions

@@ -3,20 +3,21 @@ use Rattle.std.proofs.Common.{◌≡◌, ℕ, List, [], ◌∷◌, ◌++◌, suc
 use Rattle.std.proofs.lemmas.List.{append_assoc, length-reverse, reverse-append, reverse-reverse}
 use Rattle.xb_value.specs.declared.value.Value.{Value}
 use Rattle.dslx_meaning.specs.Lists.{all_some, and_then, with_both}
+use Rattle.dslx_core.specs.CoreValues.{Bindings}
 use Rattle.dslx_interp.specs.Eval.Inner.Operations.{put_on}
 use Rattle.dslx_interp.proofs.OnEval.Prefixes.{take_prefix}
 
+-- a value, and what is bound where it was found
+abbrev pub Answer : Type 0
+Answer = Value × Bindings
+
 abbrev pub Goes : Type 0
-Goes = List Value → Option Value
+Goes = List Value → Option Answer
 
 -- one after another, however they are grouped
 pub in_turn : {A B C : Type 0} (o : Option A) (f : A → Option B) (g : B → Option C) → and_then (and_then o f) g ≡ and_then o (λ a. and_then (f a) g)
 in_turn None f g = refl
 in_turn (Some a) f g = refl
-
-pub gives_itself : {A : Type 0} (o : Option A) → and_then o (λ a. Some a) ≡ o
-gives_itself None = refl
-gives_itself (Some a) = refl
 
 without_other : {A B C : Type 0} (o : Option A) (f : A → B → Option C) → with_both o None f ≡ None
 without_other None f = refl
@@ -37,7 +38,7 @@ two_goes None r p q f vs k = refl
 two_goes (Some x) None p q f vs k = ap (λ o. and_then o (λ v. k (v ∷ vs))) (without_other (p x) f)
 two_goes (Some x) (Some y) p q f vs k = put_goes (with_both (p x) (q y) f) vs k
 
-abbrev nothing : Option Value
+abbrev nothing : Option Answer
 nothing = None
 
 nothing_behind : (l r : Option Value) → nothing ≡ and_then l (λ x. and_then r (λ y. nothing))

@@ -12,7 +12,6 @@ use Rattle.dslx_interp.specs.Eval.Inner.Machine.{MachineState, shown, stepped}
 use Rattle.dslx_interp.specs.Eval.Inner.Tasks.{ValueDen, plain_task}
 use Rattle.dslx_interp.proofs.OnEval.Calls.{calls_before, all_calls}
 use Rattle.dslx_interp.proofs.OnEval.Keeps.{answer, answer_of, keeps}
-use Rattle.dslx_interp.proofs.OnEval.Options.{gives_itself}
 
 popped : {A : Type 0} (xs : List A) (x : A) → slice_get xs 0 ≡ Some x → xs ≡ x ∷ drop 1 xs
 popped [] x h = absurd (cc)
@@ -25,8 +24,8 @@ emptied [] h = refl
 emptied (y ∷ ys) h = absurd (cc)
 
 -- an expression to be found, where nothing else is to be done
-pub begins : (fs : List Function) (e : CoreExpr) (bound : Bindings) → answer fs (ValueDen e ∷ []) [] bound (length fs) ≡ core_value e (functions_from 0 fs no_function) bound
-begins fs e bound = gives_itself (core_value e (calls_before fs (length fs)) bound) ∙ ap (λ calls. core_value e calls bound) (all_calls fs)
+pub begins : (fs : List Function) (e : CoreExpr) (bound : Bindings) → answer fs (ValueDen e ∷ []) [] bound (length fs) ≡ and_then (core_value e (functions_from 0 fs no_function) bound) (λ v. Some (v, bound))
+begins fs e bound = ap (λ calls. and_then (core_value e calls bound) (λ v. Some (v, bound))) (all_calls fs)
 
 -- a task is taken and done, or can't be
 pub taken : (m mid : Machine) (task : Task) (o : Option MachineState) → slice_get m.tasks 0 ≡ Some task → mid ≡ record m { tasks = drop 1 m.tasks } → stepped (plain_task task) (shown mid) ≡ o
@@ -37,7 +36,7 @@ taken m mid task o top rest does =
     ∙ ap (λ r. and_then r answer_of) (ap (λ n. stepped (plain_task task) (shown n)) (sym rest) ∙ does))
 
 -- nothing is left to be done
-pub ended : (m : Machine) → slice_get m.tasks 0 ≡ None → answer_of (shown m) ≡ slice_get m.values 0
+pub ended : (m : Machine) → slice_get m.tasks 0 ≡ None → answer_of (shown m) ≡ and_then (slice_get m.values 0) (λ v. Some (v, m.bound.items))
 ended m none = ap (λ (ts : List Task). answer m.functions.now (map plain_task ts) m.values m.bound.items m.before) (emptied m.tasks none)
 
 -- a task that can't be done

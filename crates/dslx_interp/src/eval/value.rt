@@ -1,4 +1,6 @@
-ghost use Rattle.std.specs.Prelude.{◌≡◌, IfOk};
+ghost use Rattle.std.specs.Prelude.{◌≡◌, IfOk, Some, slice_get};
+ghost use Rattle.dslx_meaning.specs.Lists.{and_then};
+ghost use Rattle.dslx_interp.specs.Eval.Found.{plain_found};
 ghost use Rattle.dslx_core.specs.CoreValues.{core_value};
 ghost use Rattle.dslx_core.specs.Designs.{functions_from, no_function};
 
@@ -9,8 +11,15 @@ use dslx_core::{CoreExpr, Function};
 use std::alloc::{AllocError, Global};
 use xb_value::Value;
 
-/// The value of an expression over these bound values, unless it has none. `functions` are those that it may call, each of
-/// which calls only those before it.
+/// A value that was found, and what is bound there.
+#[derive(Drop)]
+pub struct Found {
+    pub value: Value,
+    pub bound: Vec<Value>,
+}
+
+/// The value of an expression over these bound values, which are handed back with it, unless it has none. `functions` are those that
+/// it may call, each of which calls only those before it.
 ///
 /// It takes a step for each expression that it meets, in each turn of a loop anew, and memory for what is open at once. Past
 /// 2^64 - 1 steps, which no checked text needs, it gives up as for want of memory.
@@ -19,8 +28,8 @@ pub fn value_of<'a>(
     functions: &'a [Function],
     expr: &'a CoreExpr,
     bound: Vec<Value>,
-) -> Result<Option<Value>, AllocError>
-    ensures { IfOk result (λ v. v ≡ core_value expr.now (functions_from 0 functions.now no_function) bound.items) }
+) -> Result<Option<Found>, AllocError>
+    ensures { IfOk result (λ o. plain_found o ≡ and_then (core_value expr.now (functions_from 0 functions.now no_function) bound.items) (λ v. Some (v, bound.items))) }
 {
     let mut machine = Machine {
         functions,
@@ -35,8 +44,25 @@ pub fn value_of<'a>(
             Some(task) => if !machine.step(alloc, task)? {
                 return Ok(None);
             },
-            None => return Ok(machine.values.pop()),
+            None => return Ok(found_by(machine)),
         }
     }
     Err(AllocError)
+}
+
+/// The value on the top of a machine's stack, with what is bound.
+fn found_by(machine: Machine) -> Option<Found>
+    ensures { plain_found result ≡ and_then (slice_get machine.entry.values 0) (λ v. Some (v, machine.entry.bound.items)) }
+{
+    let Machine {
+        functions: _,
+        tasks: _,
+        mut values,
+        bound,
+        before: _,
+    } = machine;
+    match values.pop() {
+        Some(value) => Some(Found { value, bound }),
+        None => None,
+    }
 }

@@ -10,12 +10,12 @@ use Rattle.net_core.specs.Behavior.{Turn, Skip, Receive, Give}
 use Rattle.net_core.specs.declared.event.Event.{Event}
 use Rattle.net_core.specs.declared.event.Event.TheVariants.{Recv, Send, End}
 use Rattle.dslx_meaning.specs.Lists.{and_then}
-use Rattle.dslx_core.specs.CoreValues.{Bindings, Functions, core_value, taken_apart}
+use Rattle.dslx_core.specs.CoreValues.{Bindings, Functions, core_value}
 use Rattle.dslx_core.specs.Designs.{Behind, CoreActivity, apart_then, condition_at, do_steps, go_behind, no_activity, on_or_off, receive_if, receive_on, send_if, send_on, token, turn_before, with_token}
 use Rattle.dslx_core.specs.declared.expr.CoreExpr.{CoreExpr}
 use Rattle.dslx_core.specs.declared.expr.Shape.{Shape}
 use Rattle.dslx_network.specs.declared.walk.Walk.{Walk}
-use Rattle.dslx_network.specs.Inner.Walking.{SendsAWord, Goes, BindsOrEnds, bound_then, event_behind, event_here, first_event, give_then, receive_off, send_off}
+use Rattle.dslx_network.specs.Inner.Walking.{SendsAWord, Goes, BindsOrEnds, StandsStill, bound_then, event_behind, event_here, first_event, give_then, receive_off, send_off}
 
 ended_is : (k i : ℕ) → event_behind no_activity k i ≡ End token
 unfolding first_event
@@ -23,23 +23,20 @@ ended_is k i = refl
 
 -- ---- values taken apart
 
-apart_is : (shape : Shape) (rest : Behind) (bound : Bindings) (value : Option Value) (words : List Word)
-    → apart_then shape rest bound value words ≡ go_behind rest (and_then value (λ v. taken_apart shape v bound)) words
-apart_is shape rest bound None words = refl
-apart_is shape rest bound (Some v) words = refl
-
 -- a value is taken apart by a walk, whose event it is then
-pub apart_goes : (shape : Shape) (value : Option Value) (got : List Word) (done : ℕ) (old new : Walk) (ended : Option Event) → BindsOrEnds shape value old new ended
-    → Goes (λ rest bound words. apart_then shape rest bound value words) got done old new ended
+pub apart_goes : (shape : Shape) (value : Value) (got : List Word) (done : ℕ) (old new : Walk) (ended : Option Event) → BindsOrEnds shape value old new ended
+    → Goes (λ rest bound words. apart_then shape rest bound (Some value) words) got done old new ended
 apart_goes shape value got done old new None h = λ rest.
-    ap (λ a. event_behind a (done - old.site) old.site) (apart_is shape rest old.bound.items value (drop old.received got))
-    ∙ ap (λ o. event_behind (go_behind rest o (drop old.received got)) (done - old.site) old.site) h.0
+    ap (λ o. event_behind (go_behind rest o (drop old.received got)) (done - old.site) old.site) h.0
     ∙ (ap (λ r. event_behind (rest new.bound.items (drop r got)) (done - old.site) old.site) (sym h.1)
     ∙ ap (λ s. event_behind (rest new.bound.items (drop new.received got)) (done - s) s) (sym h.2))
 apart_goes shape value got done old new (Some event) h = λ rest.
-    ap (λ a. event_behind a (done - old.site) old.site) (apart_is shape rest old.bound.items value (drop old.received got))
-    ∙ ap (λ o. event_behind (go_behind rest o (drop old.received got)) (done - old.site) old.site) h.0
+    ap (λ o. event_behind (go_behind rest o (drop old.received got)) (done - old.site) old.site) h.0
     ∙ (ended_is (done - old.site) old.site ∙ sym h.1)
+
+-- the rest gives the same from where another walk stands as this one
+pub stands_as : (rest : Behind) (got : List Word) (done : ℕ) (old mid : Walk) → StandsStill old mid → event_here rest got done old ≡ event_here rest got done mid
+stands_as rest got done old mid h = λ t. event_behind (rest (sym h.bound t) (drop (sym h.received t) got)) (done - sym h.site t) (sym h.site t)
 
 -- what a step gives is what another one gives from where the walk stands behind its site
 pub goes_from : (f g : Behind → Behind) (got : List Word) (done : ℕ) (old mid new : Walk) (ended : Option Event)
@@ -47,12 +44,21 @@ pub goes_from : (f g : Behind → Behind) (got : List Word) (done : ℕ) (old mi
 goes_from f g got done old mid new None same h = λ rest. same rest ∙ h rest
 goes_from f g got done old mid new (Some event) same h = λ rest. same rest ∙ h rest
 
-pub bind_goes : (calls : Functions) (e : CoreExpr) (shape : Shape) (got : List Word) (done : ℕ) (old new : Walk) (value : Option Value) (ended : Option Event)
-    → value ≡ core_value e calls old.bound.items → BindsOrEnds shape value old new ended → Goes (bound_then calls e shape) got done old new ended
-bind_goes calls e shape got done old new value ended is h =
-    goes_from (bound_then calls e shape) (λ rest bound words. apart_then shape rest bound value words) got done old old new ended
+-- so it is from a walk that stands as this one
+pub goes_on_from : (f : Behind → Behind) (got : List Word) (done : ℕ) (old mid new : Walk) (ended : Option Event) → StandsStill old mid → Goes f got done mid new ended → Goes f got done old new ended
+goes_on_from f got done old mid new ended stays h = goes_from f f got done old mid new ended (λ rest. stands_as (f rest) got done old mid stays) h
+
+pub bind_goes : (calls : Functions) (e : CoreExpr) (shape : Shape) (got : List Word) (done : ℕ) (old mid new : Walk) (value : Value) (ended : Option Event)
+    → Some value ≡ core_value e calls old.bound.items → StandsStill old mid → BindsOrEnds shape value mid new ended → Goes (bound_then calls e shape) got done old new ended
+bind_goes calls e shape got done old mid new value ended is stays h =
+    goes_from (bound_then calls e shape) (λ rest bound words. apart_then shape rest bound (Some value) words) got done old old new ended
     (λ rest. ap (λ v. event_behind (apart_then shape rest old.bound.items v (drop old.received got)) (done - old.site) old.site) (sym is))
-    (apart_goes shape value got done old new ended h)
+    (goes_on_from (λ rest bound words. apart_then shape rest bound (Some value) words) got done old mid new ended stays (apart_goes shape value got done mid new ended h))
+
+pub bind_without : (calls : Functions) (e : CoreExpr) (shape : Shape) (got : List Word) (done : ℕ) (old : Walk) → None ≡ core_value e calls old.bound.items
+    → (rest : Behind) → event_here (bound_then calls e shape rest) got done old ≡ End token
+bind_without calls e shape got done old is rest =
+    ap (λ o. event_behind (apart_then shape rest old.bound.items o (drop old.received got)) (done - old.site) old.site) (sym is) ∙ ended_is (done - old.site) old.site
 
 -- ---- sites that are past, and sites that are off
 
@@ -78,21 +84,29 @@ off_site a done site = by_left (done - site) refl
         ap (λ i. event_behind a k i) f ∙ ap (λ n. event_behind a n (site + 1)) g
 
 -- the value that stands for a site that is off is taken apart behind it
-pub off_goes : (shape : Shape) (value : Option Value) (got : List Word) (done : ℕ) (old mid new : Walk) (ended : Option Event)
+pub off_goes : (shape : Shape) (value : Value) (got : List Word) (done : ℕ) (old mid new : Walk) (ended : Option Event)
     → mid.bound ≡ old.bound → mid.received ≡ old.received → mid.site ≡ old.site + 1 → BindsOrEnds shape value mid new ended
-    → Goes (λ rest bound words. turn_before Skip (apart_then shape rest bound value words)) got done old new ended
+    → Goes (λ rest bound words. turn_before Skip (apart_then shape rest bound (Some value) words)) got done old new ended
 off_goes shape value got done old mid new ended bound r s h =
-    goes_from (λ rest bound words. turn_before Skip (apart_then shape rest bound value words)) (λ rest bound words. apart_then shape rest bound value words) got done old mid new ended
-    (λ rest. off_site (apart_then shape rest old.bound.items value (drop old.received got)) done old.site ∙ rw (bound, r, s) refl)
+    goes_from (λ rest bound words. turn_before Skip (apart_then shape rest bound (Some value) words)) (λ rest bound words. apart_then shape rest bound (Some value) words) got done old mid new ended
+    (λ rest. off_site (apart_then shape rest old.bound.items (Some value) (drop old.received got)) done old.site ∙ rw (bound, r, s) refl)
     (apart_goes shape value got done mid new ended h)
 
-pub receive_off_goes : (calls : Functions) (e : CoreExpr) (shape : Shape) (value : Option Value) (got : List Word) (done : ℕ) (old mid new : Walk) (ended : Option Event)
-    → value ≡ and_then (core_value e calls old.bound.items) (λ v. Some (with_token v)) → mid.bound ≡ old.bound → mid.received ≡ old.received → mid.site ≡ old.site + 1
-    → BindsOrEnds shape value mid new ended → Goes (receive_off calls e shape) got done old new ended
-receive_off_goes calls e shape value got done old mid new ended is bound r s h =
-    goes_from (receive_off calls e shape) (λ rest bound words. turn_before Skip (apart_then shape rest bound value words)) got done old old new ended
-    (λ rest. ap (λ v. event_behind (turn_before Skip (apart_then shape rest old.bound.items v (drop old.received got))) (done - old.site) old.site) (sym is))
-    (off_goes shape value got done old mid new ended bound r s h)
+pub receive_off_goes : (calls : Functions) (e : CoreExpr) (shape : Shape) (value pair : Value) (got : List Word) (done : ℕ) (old stood mid new : Walk) (ended : Option Event)
+    → Some value ≡ core_value e calls old.bound.items → pair ≡ with_token value → StandsStill old stood → mid.bound ≡ stood.bound → mid.received ≡ stood.received → mid.site ≡ stood.site + 1
+    → BindsOrEnds shape pair mid new ended → Goes (receive_off calls e shape) got done old new ended
+receive_off_goes calls e shape value pair got done old stood mid new ended is same stays bound r s h =
+    goes_from (receive_off calls e shape) (λ rest bound words. turn_before Skip (apart_then shape rest bound (Some pair) words)) got done old old new ended
+    (λ rest.
+    ap (λ o. event_behind (turn_before Skip (apart_then shape rest old.bound.items (and_then o (λ v. Some (with_token v))) (drop old.received got))) (done - old.site) old.site) (sym is)
+    ∙ ap (λ v. event_behind (turn_before Skip (apart_then shape rest old.bound.items (Some v) (drop old.received got))) (done - old.site) old.site) (sym same))
+    (goes_on_from (λ rest bound words. turn_before Skip (apart_then shape rest bound (Some pair) words)) got done old stood new ended stays (off_goes shape pair got done stood mid new ended bound r s h))
+
+pub receive_off_without : (calls : Functions) (e : CoreExpr) (shape : Shape) (got : List Word) (done : ℕ) (old : Walk) → None ≡ core_value e calls old.bound.items
+    → (rest : Behind) → event_here (receive_off calls e shape rest) got done old ≡ End token
+receive_off_without calls e shape got done old is rest =
+    ap (λ o. event_behind (turn_before Skip (apart_then shape rest old.bound.items (and_then o (λ v. Some (with_token v))) (drop old.received got))) (done - old.site) old.site) (sym is)
+    ∙ off_site no_activity done old.site ∙ ended_is (done - (old.site + 1)) (old.site + 1)
 
 -- ---- receives
 
@@ -138,7 +152,7 @@ receive_without t shape got done old new before none rest =
 
 pub receive_goes : (t : Ty) (shape : Shape) (got : List Word) (done : ℕ) (old mid new : Walk) (w : Word) (value : Value) (ended : Option Event) → old.site < done
     → slice_get got old.received ≡ Some w → value ≡ with_token (unflat_of t w.value) → mid.bound ≡ old.bound → mid.received ≡ old.received + 1 → mid.site ≡ old.site + 1
-    → BindsOrEnds shape (Some value) mid new ended → Goes (receive_on t shape) got done old new ended
+    → BindsOrEnds shape value mid new ended → Goes (receive_on t shape) got done old new ended
 receive_goes t shape got done old mid new w value ended before there is bound r s h =
     goes_from (receive_on t shape) (λ rest bound words. apart_then shape rest bound (Some value) words) got done old mid new ended
     (λ rest.
@@ -146,7 +160,7 @@ receive_goes t shape got done old mid new w value ended before there is bound r 
     ∙ past_site Receive (apart_then shape rest old.bound.items (Some (with_token (unflat_of t w.value))) (drop (old.received + 1) got)) done old.site before
     ∙ ap (λ v. event_behind (apart_then shape rest old.bound.items (Some v) (drop (old.received + 1) got)) (done - (old.site + 1)) (old.site + 1)) (sym is)
     ∙ rw (bound, r, s) refl)
-    (apart_goes shape (Some value) got done mid new ended h)
+    (apart_goes shape value got done mid new ended h)
 
 -- ---- sends
 
@@ -176,14 +190,14 @@ send_without calls e shape got done old new is rest =
 
 pub send_goes : (calls : Functions) (e : CoreExpr) (shape : Shape) (got : List Word) (done : ℕ) (old mid new : Walk) (v : Value) (ended : Option Event) → old.site < done
     → Some v ≡ core_value e calls old.bound.items → mid.bound ≡ old.bound → mid.received ≡ old.received → mid.site ≡ old.site + 1
-    → BindsOrEnds shape (Some token) mid new ended → Goes (give_then calls e shape) got done old new ended
+    → BindsOrEnds shape token mid new ended → Goes (give_then calls e shape) got done old new ended
 send_goes calls e shape got done old mid new v ended before is bound r s h =
     goes_from (give_then calls e shape) (λ rest bound words. apart_then shape rest bound (Some token) words) got done old mid new ended
     (λ rest.
     ap (λ o. event_behind (send_on shape rest old.bound.items o (drop old.received got)) (done - old.site) old.site) (sym is)
     ∙ past_site (Give (flat_of v)) (apart_then shape rest old.bound.items (Some token) (drop old.received got)) done old.site before
     ∙ rw (bound, r, s) refl)
-    (apart_goes shape (Some token) got done mid new ended h)
+    (apart_goes shape token got done mid new ended h)
 
 -- ---- sites with a condition
 

@@ -38,10 +38,20 @@ SendsAWord (Recv i) = Unit {0}
 SendsAWord (End s) = Unit {0}
 
 -- the parts of a value are bound, or the activation ends
-abbrev pub BindsOrEnds : Shape → Option Value → Walk → Walk → Option Event → Type 0
-BindsOrEnds shape value old new None =
-    (and_then value (λ v. taken_apart shape v old.bound.items) ≡ Some new.bound.items) × (new.received ≡ old.received) × (new.site ≡ old.site)
-BindsOrEnds shape value old new (Some event) = (and_then value (λ v. taken_apart shape v old.bound.items) ≡ None) × (event ≡ End token)
+abbrev pub BindsOrEnds : Shape → Value → Walk → Walk → Option Event → Type 0
+BindsOrEnds shape value old new None = (taken_apart shape value old.bound.items ≡ Some new.bound.items) × (new.received ≡ old.received) × (new.site ≡ old.site)
+BindsOrEnds shape value old new (Some event) = (taken_apart shape value old.bound.items ≡ None) × (event ≡ End token)
+
+-- a walk stands where it stood, over what was bound
+pub record StandsStill (old new : Walk) : Type 0 where
+  pub bound : new.bound.items ≡ old.bound.items
+  pub received : new.received ≡ old.received
+  pub site : new.site ≡ old.site
+
+-- so it is where something was found
+abbrev pub StandsStillIf : {A : Type 0} → Option A → Walk → Walk → Type 0
+StandsStillIf None old new = Unit {0}
+StandsStillIf (Some a) old new = StandsStill old new
 
 -- a walk goes on behind what is put before the rest, or the event has come already
 abbrev pub Goes : (Behind → Behind) → List Word → ℕ → Walk → Walk → Option Event → Type 0

@@ -82,7 +82,10 @@ fn last_count(alloc: Global, text: &str) -> Result<Option<usize>, Fail> {
 fn value_of_last(alloc: Global, made: InstanceTable) -> Result<Option<Value>, AllocError> {
     let functions = made.into_functions(alloc)?;
     match functions.as_slice() {
-        [before @ .., last] => value_of(alloc, before, &last.body, Vec::new(alloc)),
+        [before @ .., last] => match value_of(alloc, before, &last.body, Vec::new(alloc))? {
+            Some(found) => Ok(Some(found.value)),
+            None => Ok(None),
+        },
         [] => Ok(None),
     }
 }

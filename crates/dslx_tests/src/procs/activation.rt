@@ -126,7 +126,7 @@ fn value<'a>(alloc: Global, going: &Going<'a>, expr: &CoreExpr) -> Result<Value,
         bound.push(value.copy(alloc)?)?;
     }
     match value_of(alloc, going.functions, expr, bound)? {
-        Some(value) => Ok(value),
+        Some(found) => Ok(found.value),
         None => Err(Fail::from("an expression without a value")),
     }
 }

@@ -1,12 +1,9 @@
-use Rattle.std.specs.List.{list_all}
-use Rattle.dslx_core.specs.declared.design.Instance.{Instance}
-use Rattle.dslx_network.specs.Bodies.{receives_word}
-use Rattle.std.proofs.Common.{IsTrue, subst, ◌≡◌, ◌∙◌, ◌++◌, ◌∷◌, [], List, ap, sym, map, length, get_or, arith}
+use Rattle.std.proofs.Common.{◌≡◌, ◌∙◌, ◌++◌, ◌∷◌, [], List, ap, sym, map, length, get_or, arith}
 use Rattle.std.specs.Prelude.{slice_get}
 use Rattle.net_core.specs.Behavior.{Behavior}
 use Rattle.dslx_core.specs.Designs.{core_behaviors, core_family}
 use Rattle.dslx_network.specs.DslxBodies.{behavior_of}
-use Rattle.dslx_network.proofs.OnBody.Numbers.{as_many, instance_found, instance_is, keeps_found, map_one_more, proc_there, take_all, take_one_more}
+use Rattle.dslx_network.proofs.OnBody.Numbers.{as_many, instance_found, keeps_found, map_one_more, proc_there, take_all, take_one_more}
 use Rattle.dslx_network.proofs.bodies.bodies_of.Goals as goal
 
 pub instance_at-instance-requires : goal.instance_at-instance-requires
@@ -26,9 +23,7 @@ pub new-requires-clause-words : goal.new-requires-clause-words
 new-requires-clause-words c =
     let design = c.args.design.now in
     let n = get_or c.args.instances.now c.procs.number 0 in
-    let h = proc_there design.procs c.args.instances.now (core_family design).procs c.requires.instances c.procs.number c.procs-test.true in
-    let same = instance_is design c.procs.number n c.instance_at-instance.result.now h (ap (λ is. slice_get is n) (sym c.as_slice-procs.ensures) ∙ c.instance_at-instance.ensures) in
-    subst (λ (i : Instance). IsTrue (list_all receives_word i.steps)) same (c.requires.words c.procs.number h.proc h.there)
+    c.requires.words n c.instance_at-instance.result.now (ap (λ is. slice_get is n) (sym c.as_slice-procs.ensures) ∙ c.instance_at-instance.ensures)
 
 pub new-requires-clause-keeps : goal.new-requires-clause-keeps
 new-requires-clause-keeps c =

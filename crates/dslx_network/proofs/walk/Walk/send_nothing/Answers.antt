@@ -1,4 +1,4 @@
-use Rattle.std.proofs.Common.{Some, subst}
+use Rattle.std.proofs.Common.{subst}
 use Rattle.std.proofs.lemmas.Result.{IfOk-weaker}
 use Rattle.dslx_core.specs.Designs.{token}
 use Rattle.dslx_network.specs.Inner.Walking.{BindsOrEnds}
@@ -9,6 +9,6 @@ pub returns : goal.returns
 returns c =
     let past = c.in_ok-pass.ensures in
     IfOk-weaker c.take.result _ _
-    (λ ended h. off_goes c.args.shape.now (Some token) c.args._got.now c.args._done c.args.self.now c.pass.new.self c.take.new.self ended past.bound past.received past.site
-    (subst (λ v. BindsOrEnds c.args.shape.now (Some v) c.pass.new.self c.take.new.self ended) c.token.ensures h))
+    (λ ended h. off_goes c.args.shape.now token c.args._got.now c.args._done c.args.self.now c.pass.new.self c.take.new.self ended past.bound past.received past.site
+    (subst (λ v. BindsOrEnds c.args.shape.now v c.pass.new.self c.take.new.self ended) c.token.ensures h))
     c.take.ensures

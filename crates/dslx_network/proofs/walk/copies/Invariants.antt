@@ -1,5 +1,0 @@
-use Rattle.std.proofs.Common.{◌≡◌, take}
-use Rattle.dslx_network.proofs.walk.copies.Given as goal
-
-abbrev pub invariant-values : goal.invariant-values
-invariant-values l = l.copies.items ≡ take l.value-index l.values
