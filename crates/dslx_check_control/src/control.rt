@@ -202,6 +202,7 @@ fn annotation_typing(types: &TypeTable, value: Spanned, written: Option<Typing>)
 }
 
 /// A loop by its parts: the ends of its range, its annotation, what it starts with, its two patterns and its body.
+#[derive(Clone, Copy)]
 pub struct LoopParts<'p> {
     pub from: &'p ConstantTyping,
     pub to: &'p ConstantTyping,

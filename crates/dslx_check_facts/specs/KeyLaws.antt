@@ -5,6 +5,7 @@ use Rattle.std.specs.Bool.{Decides}
 use Rattle.std.specs.Cmp.{IsEquivalence, decided, first_so, second_so}
 use Rattle.std.proofs.lemmas.Bool.Decides.{Decides-eqb}
 use Rattle.dslx_meaning.specs.Lists.{pairwise}
+use Rattle.dslx_meaning.specs.Types.{same_bool}
 use Rattle.dslx_meaning.specs.declared.value.DslxValue.{DslxValue}
 use Rattle.dslx_meaning.specs.Rules.EqualValues.{equal_value}
 use Rattle.dslx_core.proofs.Lemmas.Typing.Laws.{one_value_by_test, value_equals_itself}
@@ -100,16 +101,29 @@ part_itself Parameter = refl
 part_itself Default = refl
 part_itself Signature = refl
 
+one_flag : (p q : Bool) → same_bool p q ≡ true → p ≡ q
+one_flag true true e = refl
+one_flag true false e = absurd (true≢false (sym e))
+one_flag false true e = absurd (true≢false (sym e))
+one_flag false false e = refl
+
+flag_itself : (p : Bool) → same_bool p p ≡ true
+flag_itself true = refl
+flag_itself false = refl
+
 pub one_foreign : (a b : ForeignKey) → same_foreign a b ≡ true → a ≡ b
 one_foreign a b e =
-    let numbers = second_so (same_part a.part b.part) (a.item == b.item && a.prefix == b.prefix) e in
-    let part = one_part a.part b.part (first_so (same_part a.part b.part) (a.item == b.item && a.prefix == b.prefix) e) in
-    let item = one_number a.item b.item (first_so (a.item == b.item) (a.prefix == b.prefix) numbers) in
-    let prefix = one_number a.prefix b.prefix (second_so (a.item == b.item) (a.prefix == b.prefix) numbers) in
-    λ i. record { part = part i; item = item i; prefix = prefix i }
+    let rest = a.prefix == b.prefix && same_bool a.is_refused b.is_refused in
+    let numbers = second_so (same_part a.part b.part) (a.item == b.item && rest) e in
+    let part = one_part a.part b.part (first_so (same_part a.part b.part) (a.item == b.item && rest) e) in
+    let item = one_number a.item b.item (first_so (a.item == b.item) rest numbers) in
+    let last = second_so (a.item == b.item) rest numbers in
+    let prefix = one_number a.prefix b.prefix (first_so (a.prefix == b.prefix) (same_bool a.is_refused b.is_refused) last) in
+    let flag = one_flag a.is_refused b.is_refused (second_so (a.prefix == b.prefix) (same_bool a.is_refused b.is_refused) last) in
+    λ i. record { part = part i; item = item i; prefix = prefix i; is_refused = flag i }
 
 foreign_itself : (a : ForeignKey) → same_foreign a a ≡ true
-foreign_itself a = λ i. part_itself a.part i && (number_itself a.item i && number_itself a.prefix i)
+foreign_itself a = λ i. part_itself a.part i && (number_itself a.item i && (number_itself a.prefix i && flag_itself a.is_refused i))
 
 foreign_keys_decide : (a b : ForeignKey) → Decides (same_foreign a b) (a ≡ b)
 foreign_keys_decide a b = (one_foreign a b, λ e. sym (ap (same_foreign a) e) ∙ foreign_itself a)

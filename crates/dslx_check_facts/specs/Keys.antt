@@ -3,6 +3,7 @@ use Rattle.std.specs.Prelude.{ℕ, List, [], ◌∷◌, ◌++◌, ◌==◌, ◌&
 use Rattle.std.specs.List.{flat_map}
 use Rattle.std.specs.Hash.{HashWrites, u32, u128}
 use Rattle.dslx_meaning.specs.Lists.{pairwise}
+use Rattle.dslx_meaning.specs.Types.{same_bool}
 use Rattle.dslx_meaning.specs.declared.value.DslxValue.{DslxValue, out-DslxValue}
 use Rattle.dslx_meaning.specs.declared.value.DslxValue.TheOpen.{DslxValue-F}
 use Rattle.dslx_meaning.specs.Rules.EqualValues.{equal_value}
@@ -79,7 +80,7 @@ same_part Signature Signature = true
 same_part _ _ = false
 
 abbrev pub same_foreign : ForeignKey → ForeignKey → Bool
-same_foreign a b = same_part a.part b.part && (a.item == b.item && a.prefix == b.prefix)
+same_foreign a b = same_part a.part b.part && (a.item == b.item && (a.prefix == b.prefix && same_bool a.is_refused b.is_refused))
 
 abbrev pub fed_by_foreign : ForeignKey → HashWrites
 fed_by_foreign k = u32 k.item ++ u32 k.prefix

@@ -1,5 +1,5 @@
 -- What is known of a text, and which global environment says the same.
-use Rattle.std.specs.Prelude.{ℕ, List, [], ◌∷◌, ◌≡◌, ◌+◌, ◌==◌, ◌||◌, Bool, true, false, Option, Some, None, slice_get, if◌then◌else◌}
+use Rattle.std.specs.Prelude.{ℕ, List, [], ◌∷◌, ◌≡◌, ◌+◌, ◌==◌, ◌&&◌, ◌||◌, Bool, true, false, Option, Some, None, slice_get, if◌then◌else◌}
 use Rattle.std.specs.Option.{option_map}
 use Rattle.std.specs.Str.{bytes_eq}
 use Rattle.dslx_tree.specs.declared.item.Definition.{Definition}
@@ -9,11 +9,16 @@ use Rattle.dslx_tree.specs.declared.item.Member.{Member}
 use Rattle.dslx_tree.specs.declared.item.Module.{Module}
 use Rattle.dslx_tree.specs.declared.item.Struct.{Struct}
 use Rattle.dslx_meaning.specs.Lists.{and_then}
+use Rattle.dslx_tree.specs.declared.expr.Expr.{Expr}
 use Rattle.dslx_meaning.specs.Values.{type_of_value}
-use Rattle.dslx_meaning.specs.Items.{item_named, as_constant, as_struct, as_enum, is_constant_item}
+use Rattle.dslx_meaning.specs.Meaning.{value_of}
+use Rattle.dslx_meaning.specs.Items.{item_named, as_constant, as_struct, as_enum, is_constant_item, meanings_of}
 use Rattle.dslx_meaning.specs.declared.ty.DslxType.{DslxType}
 use Rattle.dslx_meaning.specs.declared.value.DslxValue.{DslxValue}
-use Rattle.dslx_meaning.specs.Rules.TypeEnvs.{GlobalEnv, Instance}
+use Rattle.dslx_meaning.specs.Rules.TypeEnvs.{GlobalEnv, Instance, Judgement, TypeEnv, constant_env}
+use Rattle.dslx_meaning.specs.Rules.ConstantRules.{constant_of, constant_typing, is_sound_here}
+use Rattle.dslx_meaning.specs.Rules.NodeRules.{expr_pair}
+use Rattle.dslx_meaning.specs.Rules.PatternRules.{is_there}
 use Rattle.dslx_meaning.specs.Rules.Namesakes.{told_apart}
 use Rattle.dslx_check_items.specs.Items.{item_number}
 use Rattle.dslx_check_rules.specs.declared.table.row.TypeId.{TypeId}
@@ -26,6 +31,7 @@ use Rattle.dslx_check_facts.specs.declared.facts.ForeignSeen.{ForeignSeen}
 use Rattle.dslx_check_facts.specs.declared.facts.Kept.{Kept}
 use Rattle.dslx_check_facts.specs.declared.facts.Sums.{Sums}
 use Rattle.dslx_check_facts.specs.Names.{definition_at, names_of}
+use Rattle.dslx_check_facts.specs.TypeEnvs.{known_to}
 use Rattle.dslx_check_facts.specs.Typings.{IsForeign, HasForeignRows}
 use Rattle.dslx_check_facts.specs.Walks.{WalkShown, instance_at}
 
@@ -124,6 +130,18 @@ names_type (Some (d.Struct s)) = true
 names_type (Some (d.Enum e)) = true
 names_type _ = false
 
+-- an expression that has a value as a constant, if it has one at all: nothing that it reaches breaks a rule or passes a limit, and it has a
+-- type and a size
+abbrev pub is_fine : GlobalEnv → Judgement → Bool
+is_fine known j = is_sound_here known j && is_there j.ty && is_there j.size
+
+abbrev pub has_value : TypeEnv → Expr → Bool
+has_value context e = is_fine context.known (constant_typing context (e, (expr_pair e).1))
+
+-- a constant's value, if it has one, has its type
+abbrev pub HasItsValue : Judgement → Option DslxValue → Type 0
+HasItsValue j value = (v : DslxValue) → value ≡ Some v → j.ty ≡ Some (type_of_value v)
+
 -- ---- and is so
 
 pub record IsSum (known : GlobalEnv) (instance : Instance) (sums : Sums) : Type 0 where
@@ -162,6 +180,13 @@ pub record FactsHold (f : Facts) (later : WalkShown) (known : GlobalEnv) : Type 
   pub done : (n : ℕ) (sums : Sums) → done_at f n ≡ Some sums → IsSum known (instance_at (item_names f) later.met n) sums
   pub foreign : (n : ℕ) (k : ForeignKey) (there : ForeignSeen) → slice_get later.asked n ≡ Some k → foreign_at f n ≡ Some there
       → IsForeign (item_names f) known later k there
+  -- of constants that are sound where they stand, which mean by the text alone what they mean by what is known
+  pub values : (is_declaring : Bool) (context : TypeEnv) (e : Expr) → context.known ≡ known_to is_declaring context.owner known → has_value context e ≡ true
+      → value_of e (record { items = meanings_of (text_of f); bound = (constant_env context).bound }) ≡ value_of e (record { items = known.items; bound = (constant_env context).bound })
+  -- values of constants, and of defaults, have their types
+  pub typed : (is_declaring : Bool) (context : TypeEnv) (e : Expr) → context.known ≡ known_to is_declaring context.owner known
+      → HasItsValue (constant_of context (e, (expr_pair e).1)).judgement (constant_of context (e, (expr_pair e).1)).value
+  pub defaults : (item : List ℕ) (before : List (Option DslxValue)) → HasItsValue (known.default_in item before).judgement (known.default_in item before).value
 
 -- each type that is known has a row
 pub record HasKnownRows (rows : List TypeRow) (f : Facts) : Type 0 where

@@ -23,8 +23,8 @@ typed_of names rows b = record { name = b.0; ty = type_if names rows b.1 }
 abbrev pub end_of : ItemNames → List TypeRow → List ℕ × MemberEnd → ChannelEnd
 end_of names rows b = record { name = b.0; direction = b.1.direction; word = type_if names rows b.1.word }
 
--- the global environment as the text of an item sees it: where a part of its declaration is judged that calls ask for, nothing is known of
--- what its own group declares, so that no part asks for itself
+-- the global environment as the text of an item sees it: where a part of its declaration is judged for a call that rule 3 refuses, nothing
+-- is known of what its own group declares, so that no part asks for itself
 abbrev pub known_to : Bool → List ℕ → GlobalEnv → GlobalEnv
 known_to is_declaring owner known = record known {
   parameter_in = λ item before. if is_declaring && known.is_cyclic owner item then untyped_typing else known.parameter_in item before;

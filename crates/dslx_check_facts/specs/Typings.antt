@@ -1,5 +1,5 @@
 -- What a walk comes to, and whose typing that is.
-use Rattle.std.specs.Prelude.{ℕ, List, ◌≡◌, ◌++◌, map, Option, Some, None}
+use Rattle.std.specs.Prelude.{ℕ, List, ◌≡◌, ◌++◌, map, Bool, false, Option, Some, None}
 use Rattle.std.specs.List.{AllByRecursion}
 use Rattle.dslx_meaning.specs.declared.value.DslxValue.{DslxValue}
 use Rattle.xb_span.specs.declared.fault.Fault.{Fault}
@@ -49,13 +49,14 @@ IsSettled new span ty faults size typing =
 
 -- ---- of other declarations
 
-pub record IsTypingThere (names : ItemNames) (later : WalkShown) (there : TypingThere) (judgement : Judgement) : Type 0 where
+-- what is there for a call that rule 3 refuses has the type alone
+pub record IsTypingThere (names : ItemNames) (later : WalkShown) (is_refused : Bool) (there : TypingThere) (judgement : Judgement) : Type 0 where
   pub ty : type_if names later.rows there.ty ≡ judgement.ty
-  pub faults : there.faults ≡ seen judgement.faults
-  pub reached : instances_at names later.met there.reached.items ≡ judgement.reached
+  pub faults : is_refused ≡ false → there.faults ≡ seen judgement.faults
+  pub reached : is_refused ≡ false → instances_at names later.met there.reached.items ≡ judgement.reached
 
-pub record IsDefault (names : ItemNames) (later : WalkShown) (there : DefaultThere) (default : DefaultSeen) : Type 0 where
-  pub typing : IsTypingThere names later there.typing default.judgement
+pub record IsDefault (names : ItemNames) (later : WalkShown) (is_refused : Bool) (there : DefaultThere) (default : DefaultSeen) : Type 0 where
+  pub typing : IsTypingThere names later is_refused there.typing default.judgement
   pub value : there.value ≡ default.value
 
 pub record IsSignature (names : ItemNames) (later : WalkShown) (there : SignatureThere) (signature : Signature) : Type 0 where
@@ -64,8 +65,8 @@ pub record IsSignature (names : ItemNames) (later : WalkShown) (there : Signatur
 
 -- what is there of a part of another declaration is what the global environment has for it
 abbrev pub IsForeign : ItemNames → GlobalEnv → WalkShown → ForeignKey → ForeignSeen → Type 0
-IsForeign names known later k (foreign.Parameter t) = IsTypingThere names later t (known.parameter_in (names.item k.item) (list_or_none later.prefixes k.prefix))
-IsForeign names known later k (foreign.Default d) = IsDefault names later d (known.default_in (names.item k.item) (list_or_none later.prefixes k.prefix))
+IsForeign names known later k (foreign.Parameter t) = IsTypingThere names later k.is_refused t (known.parameter_in (names.item k.item) (list_or_none later.prefixes k.prefix))
+IsForeign names known later k (foreign.Default d) = IsDefault names later k.is_refused d (known.default_in (names.item k.item) (list_or_none later.prefixes k.prefix))
 IsForeign names known later k (foreign.Signature s) = IsSignature names later s (known.signature_in (names.item k.item) (list_or_none later.prefixes k.prefix))
 
 -- each of its types has a row

@@ -3,6 +3,7 @@
 ghost use Rattle.std.specs.Prelude.{◌≡◌, [], Some, IfOk, OnOk, length, slice_get};
 ghost use Rattle.std.specs.Cmp.{partial_equiv_from_equiv};
 ghost use Rattle.base.specs.Lists.Prefix.{IsPrefix};
+ghost use Rattle.dslx_meaning.specs.Types.{same_bool};
 ghost use Rattle.dslx_check_facts.specs.Keys.{fed_by_foreign, same_foreign, same_part};
 ghost use Rattle.dslx_check_facts.specs.KeyLaws.{foreign_keys_equivalence, foreign_keys_fed_alike};
 
@@ -23,12 +24,14 @@ pub enum ForeignPart {
     Signature,
 }
 
-/// A part of the declaration of an item behind parametrics of these values, by their numbers.
+/// A part of the declaration of an item behind parametrics of these values, by their numbers. A call or a spawn that rule 3 refuses asks
+/// for its type and its value alone.
 #[derive(Clone, Copy)]
 pub struct ForeignKey {
     pub part: ForeignPart,
     pub item: u32,
     pub prefix: u32,
+    pub is_refused: bool,
 }
 
 impl PartialEq for ForeignKey {
@@ -38,7 +41,8 @@ impl PartialEq for ForeignKey {
 
     fn eq(&self, other: &ForeignKey) -> bool {
         is_same_part(self.part, other.part)
-            && (self.item == other.item && self.prefix == other.prefix)
+            && (self.item == other.item
+                && (self.prefix == other.prefix && is_alike(self.is_refused, other.is_refused)))
     }
 }
 
@@ -66,6 +70,12 @@ fn is_same_part(a: ForeignPart, b: ForeignPart) -> bool
         (ForeignPart::Signature, ForeignPart::Signature) => true,
         _ => false,
     }
+}
+
+fn is_alike(a: bool, b: bool) -> bool
+    ensures { result ≡ same_bool a b }
+{
+    if a { b } else { !b }
 }
 
 /// The parts of other declarations that were asked for. Contracts see them by their numbers.

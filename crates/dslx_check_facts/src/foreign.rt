@@ -68,15 +68,22 @@ pub fn parameter_seen<'f>(
     w: &mut Walk,
     item: u32,
     prefix: u32,
+    is_refused: bool,
 ) -> Result<Option<&'f TypingThere>, AllocError>
     ensures grows { OnOk result (WalkGrows (shown w.old) (shown w.new)) }
     ensures reached { OnOk result ((shown w.new).reached ≡ (shown w.old).reached) }
     ensures rows { IfOk result (λ there. (rows : List TypeRow) → HasKnownRows rows f.now → (shown w.new).missing ≡ [] → Has (option_copied there) (λ t. HasRowIf rows t.ty)) }
     ensures seen { IfOk result (λ there. (known : GlobalEnv) (later : WalkShown) → HasTables (shown w.new) later → FactsHold f.now later known → (shown w.new).missing ≡ []
-        → Has (option_copied there) (λ t. IsTypingThere (item_names f.now) later t (known.parameter_in ((item_names f.now).item item) (list_or_none later.prefixes prefix)))) }
+        → Has (option_copied there) (λ t. IsTypingThere (item_names f.now) later is_refused t (known.parameter_in ((item_names f.now).item item) (list_or_none later.prefixes prefix)))) }
 {
     let part = ForeignPart::Parameter;
-    let seen = foreign_seen(f, w, ForeignKey { part, item, prefix })?;
+    let key = ForeignKey {
+        part,
+        item,
+        prefix,
+        is_refused,
+    };
+    let seen = foreign_seen(f, w, key)?;
     match parameter_in(seen) {
         Some(there) => Ok(Some(there)),
         None => {
@@ -93,15 +100,22 @@ pub fn default_seen<'f>(
     w: &mut Walk,
     item: u32,
     prefix: u32,
+    is_refused: bool,
 ) -> Result<Option<&'f DefaultThere>, AllocError>
     ensures grows { OnOk result (WalkGrows (shown w.old) (shown w.new)) }
     ensures reached { OnOk result ((shown w.new).reached ≡ (shown w.old).reached) }
     ensures rows { IfOk result (λ there. (rows : List TypeRow) → HasKnownRows rows f.now → (shown w.new).missing ≡ [] → Has (option_copied there) (λ d. HasRowIf rows d.typing.ty)) }
     ensures seen { IfOk result (λ there. (known : GlobalEnv) (later : WalkShown) → HasTables (shown w.new) later → FactsHold f.now later known → (shown w.new).missing ≡ []
-        → Has (option_copied there) (λ d. IsDefault (item_names f.now) later d (known.default_in ((item_names f.now).item item) (list_or_none later.prefixes prefix)))) }
+        → Has (option_copied there) (λ d. IsDefault (item_names f.now) later is_refused d (known.default_in ((item_names f.now).item item) (list_or_none later.prefixes prefix)))) }
 {
     let part = ForeignPart::Default;
-    let seen = foreign_seen(f, w, ForeignKey { part, item, prefix })?;
+    let key = ForeignKey {
+        part,
+        item,
+        prefix,
+        is_refused,
+    };
+    let seen = foreign_seen(f, w, key)?;
     match default_in(seen) {
         Some(there) => Ok(Some(there)),
         None => {
@@ -118,6 +132,7 @@ pub fn signature_seen<'f>(
     w: &mut Walk,
     item: u32,
     prefix: u32,
+    is_refused: bool,
 ) -> Result<Option<&'f SignatureThere>, AllocError>
     ensures grows { OnOk result (WalkGrows (shown w.old) (shown w.new)) }
     ensures reached { OnOk result ((shown w.new).reached ≡ (shown w.old).reached) }
@@ -126,7 +141,13 @@ pub fn signature_seen<'f>(
         → Has (option_copied there) (λ s. IsSignature (item_names f.now) later s (known.signature_in ((item_names f.now).item item) (list_or_none later.prefixes prefix)))) }
 {
     let part = ForeignPart::Signature;
-    let seen = foreign_seen(f, w, ForeignKey { part, item, prefix })?;
+    let key = ForeignKey {
+        part,
+        item,
+        prefix,
+        is_refused,
+    };
+    let seen = foreign_seen(f, w, key)?;
     match signature_in(seen) {
         Some(there) => Ok(Some(there)),
         None => {

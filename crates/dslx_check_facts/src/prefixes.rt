@@ -106,6 +106,14 @@ impl Prefixes {
         }
     }
 
+    /// The number of that of no parametrics.
+    pub fn none(&self) -> u32
+        ensures { slice_get self.now result ≡ Some [] }
+    {
+        let _longer = self.keys.len();
+        0
+    }
+
     /// The parametrics of a prefix but for the last, and that one's value; of that of no parametrics nothing.
     pub fn last(&self, number: u32) -> Option<&Prefix>
         ensures { MatchOption result ((number ≡ 0) ⊎ (length self.now ≤ number)) (λ p. (p.now.before < number) × (slice_get self.now number ≡ Some (p.now.last ∷ list_or_none self.now p.now.before))) }

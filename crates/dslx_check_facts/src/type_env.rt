@@ -34,8 +34,8 @@ pub struct MemberEnd {
 pub struct TypeEnv<'a> {
     /// The item in whose text the place stands.
     pub owner: u32,
-    /// Whether a part of the declaration is judged that calls ask for. What its own group declares isn't looked at there, so that no part
-    /// asks for itself.
+    /// Whether a part of the declaration is judged for a call that rule 3 refuses. What its own group declares isn't looked at there, so
+    /// that no part asks for itself.
     pub is_declaring: bool,
     /// Parametrics with their values, and those of which no value is known.
     pub parametric_args: Bindings<'a, ParametricArg>,

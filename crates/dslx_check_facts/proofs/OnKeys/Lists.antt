@@ -40,6 +40,10 @@ from_grows lists (p ∷ ps) =
     IsPrefix-trans lists (lists ++ (p.last ∷ list_or_none lists p.before) ∷ []) (lists_from lists (p ∷ ps))
     (IsPrefix-append lists ((p.last ∷ list_or_none lists p.before) ∷ [])) (from_grows (lists ++ (p.last ∷ list_or_none lists p.before) ∷ []) ps)
 
+-- that of no parametrics is the first
+pub none_first : (ps : List Prefix) (lists : List Values) → lists_of ps ≡ lists → slice_get lists 0 ≡ Some []
+none_first ps lists e = ap (λ (ls : List Values). slice_get ls 0) (sym e) ∙ get_in_prefix ([] ∷ []) (lists_of ps) 0 [] (from_grows ([] ∷ []) ps) refl
+
 from_both : (lists : List Values) (ps qs : List Prefix) → lists_from lists (ps ++ qs) ≡ lists_from (lists_from lists ps) qs
 from_both lists [] qs = refl
 from_both lists (p ∷ ps) qs = from_both (lists ++ (p.last ∷ list_or_none lists p.before) ∷ []) ps qs

@@ -14,7 +14,7 @@ returns-in-Some-clause-rows c = λ rows h missing.
 
 pub returns-in-Some-clause-seen : goal.returns-in-Some-clause-seen
 returns-in-Some-clause-seen c = λ known later tables agrees missing.
-    signature_claim (IsForeign (item_names c.args.f.now) known later (record { part = part.Signature; item = c.args.item; prefix = c.args.prefix })) (option_copied c.in_ok-seen.seen) c.in-Some.there.now (sym c.signature_in.ensures ∙ ap option_copied c.in-Some.is)
+    signature_claim (IsForeign (item_names c.args.f.now) known later (record { part = part.Signature; item = c.args.item; prefix = c.args.prefix; is_refused = c.args.is_refused })) (option_copied c.in_ok-seen.seen) c.in-Some.there.now (sym c.signature_in.ensures ∙ ap option_copied c.in-Some.is)
     (c.in_ok-seen.ensures.seen known later tables agrees missing)
 
 pub returns-in_ok-need-in-None-clause-grows : goal.returns-in_ok-need-in-None-clause-grows

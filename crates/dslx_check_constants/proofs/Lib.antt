@@ -1,0 +1,4 @@
+-- constants
+mod OnConstants
+-- names of types
+mod OnTypeNames

@@ -1,0 +1,4 @@
+-- constants
+pub mod Constants
+-- names of types
+pub mod TypeNames
