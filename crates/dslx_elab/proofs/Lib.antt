@@ -2,3 +2,9 @@
 mod Whole
 -- instances that are added to others
 mod Added
+-- the checked text of instances
+mod OnDesign
+-- networks by which texts are run
+mod OnRuns
+-- orders of instances
+mod OnOrders

@@ -6,7 +6,13 @@
 #![tactic(auto)]
 
 mod adding;
+mod design;
 mod instance;
+mod network;
+pub mod orders;
+pub mod runs;
 
 pub use adding::{MadeInstances, add_proc};
+pub use design::design_of;
 pub use instance::proc_there;
+pub use network::{Network, network_there};
