@@ -36,6 +36,20 @@ pub mod OnLeaves
 pub mod OnChoices
 -- the values of operations
 pub mod OnResults
+-- what is put for choices
+pub mod OnChoosing
+-- and for types and values
+pub mod OnLiterals
+-- and for nodes that give a number
+pub mod OnNumbers
+-- what is put for a stage's sites
+pub mod OnChains
+-- for their words
+pub mod OnWords
+-- for the ends of channels
+pub mod OnRequests
+-- and for FIFOs
+pub mod OnBuffers
 -- the values of nodes
 pub mod OnNodeValues
 -- a stage's nodes

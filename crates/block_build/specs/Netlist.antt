@@ -8,6 +8,8 @@ pub mod Literals
 pub mod Gates
 -- the wires of a stage's sites
 pub mod Handshakes
+-- those of several sites
+pub mod Sites
 -- what they show of the machine
 pub mod Walks
 -- the wires of a pipeline's stages
@@ -34,8 +36,18 @@ pub mod Operators
 pub mod Results
 -- the wires of choices between values
 pub mod Choices
+-- where values stand in each stage
+pub mod Places
 -- the signals of a proc's nodes
 pub mod Nodes
+-- those of nodes that are no sites
+pub mod Pure
+-- those of sites
+pub mod Words
+-- of the ends of channels
+pub mod Requests
+-- and of FIFOs
+pub mod Buffers
 -- what registers hold from cycle to cycle
 pub mod Holding
 -- the netlist of a block

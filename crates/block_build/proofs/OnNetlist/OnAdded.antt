@@ -1,8 +1,8 @@
 -- What a list of wires promises when wires are put behind it.
-use Rattle.std.proofs.Common.{◌≡◌, ℕ, suc, ◌+◌, ◌<◌, ◌≤◌, ◌^◌, List, [], ◌∷◌, ◌++◌, length, sym, ap, ap₂, ◌∙◌, subst, arith, cond, true, nat_lt, max, min, Result, Ok, Err}
+use Rattle.std.proofs.Common.{◌≡◌, ℕ, suc, ◌+◌, ◌<◌, ◌≤◌, ◌^◌, List, [], ◌∷◌, ◌++◌, length, sym, ap, ap₂, ◌∙◌, subst, refl, arith, cond, true, nat_lt, max, min, Result, Ok, Err}
 use Rattle.std.specs.Prelude.{IfOk, OnOk}
 use Rattle.std.proofs.lemmas.Bool.Decides.{nat_tests}
-use Rattle.std.proofs.lemmas.List.{append_assoc, length-append}
+use Rattle.std.proofs.lemmas.List.{append_assoc, append-nil, length-append}
 use Rattle.std.proofs.lemmas.Nat.{pow_pos}
 use Rattle.xb_bits.specs.Word.{word}
 use Rattle.vlog_tree.specs.declared.expression.Atom.{Atom}
@@ -126,3 +126,20 @@ wires_named (Ok s) old new w a n p = λ v h.
     let both = p.wired v h in
     (both.0, ap v n ∙ both.1.0)
 wires_named (Err e) old new w a n p = tt
+
+-- ---- wires one behind another
+
+-- these are put, and this is the next number
+pub record PutsTo (old new : WireList) (wires : List Wire) (n : ℕ) : Type 0 where
+  pub puts : Puts old new wires
+  pub next : next_number new ≡ n
+
+pub puts_nothing : (a : WireList) → PutsTo a a [] (next_number a)
+puts_nothing a = record { puts = puts a a [] refl (sym (append-nil a.wires.items)); next = refl }
+
+-- one more
+pub puts_more : (a b c : WireList) (ws : List Wire) (y : Wire) (r : Atom) (n : ℕ) → PutsTo a b ws n → PutsNet b c y r → (r ≡ net n) × PutsTo a c (ws ++ y ∷ []) (suc n)
+puts_more a b c ws y r n p q = (
+  q.number ∙ ap net p.next,
+  record { puts = puts_both a b c ws (y ∷ []) p.puts q.puts; next = next_behind b c y q.puts ∙ ap suc p.next },
+)

@@ -22,7 +22,7 @@ use Rattle.ir_tree.specs.Constants.{no_value}
 use Rattle.ir_verify.proofs.Lemmas.Typed.Checked.{both_true}
 use Rattle.vlog_tree.specs.declared.expression.Atom.{Atom}
 use Rattle.vlog_tree.specs.Value.{Values, atom_value}
-use Rattle.block_build.specs.Netlist.Leaves.{all_leaves, leaves_step, leaves_of, ShowsValue, repeated, leaf_widths_step, leaf_widths, widths_of_words, total_width, cut_into, ShowAll, parts_of, leaf_counts, AreSome}
+use Rattle.block_build.specs.Netlist.Leaves.{all_leaves, leaves_step, leaves_of, ShowsValue, repeated, leaf_widths_step, leaf_widths, widths_of_words, total_width, cut_into, ShowAll, parts_of, leaf_counts, AreSome, first_or}
 
 -- ---- equations
 
@@ -111,6 +111,15 @@ leaf_count_is t value of = sym (length-map (leaves_of value) (λ (x : Word). x.w
 
 pub signal_count_is : (v : Values) (t : Ty) (atoms : List Atom) (value : Value) → IsOfType t value → ShowsValue v atoms value → length atoms ≡ length (leaf_widths t)
 signal_count_is v t atoms value of h = sym (length-map atoms (atom_value v)) ∙ ap length h ∙ leaf_count_is t value of
+
+-- a number has one signal
+pub only_signal : (v : Values) (w : ℕ) (atoms : List Atom) (value : Value) → IsOfType (ty.Bits w) value → ShowsValue v atoms value → atoms ≡ first_or atoms ∷ []
+only_signal v w atoms value of h = one atoms (signal_count_is v (ty.Bits w) atoms value of h ∙ ap length (leaf_widths-Bits w))
+  where
+    one : (atoms : List Atom) → length atoms ≡ 1 → atoms ≡ first_or atoms ∷ []
+    one [] e = absurd (omega (arith, e))
+    one (a ∷ []) e = refl
+    one (a ∷ b ∷ atoms) e = absurd (omega (arith, e))
 
 -- ---- numbers in a flat number
 

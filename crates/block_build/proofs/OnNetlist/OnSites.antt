@@ -28,7 +28,7 @@ use Rattle.block_build.specs.Netlist.Leaves.{ShowsValue}
 use Rattle.block_build.specs.Netlist.Nodes.{optional_read, attributes_read, operands_read, ReadEarlierNodes, site_index, value_by_words, HaveOperandTypes, IsOnSignal, IsPartnerSignal, predicate_of, turn_of}
 use Rattle.block_build.specs.Netlist.Procs.{setting_by, turns_by_words}
 use Rattle.block_build.specs.Netlist.Walks.{TurnIs}
-use Rattle.block_build.proofs.OnNetlist.OnLeaves.{has_signal}
+use Rattle.block_build.proofs.OnNetlist.OnLeaves.{has_signal, only_signal}
 use Rattle.block_build.proofs.OnNetlist.OnProcs.{count_grows}
 use Rattle.block_build.proofs.OnNetlist.OnNodeValues.{PredicateRead, role_on_agrees, on_agrees, sent_agrees, before_agrees}
 
@@ -100,7 +100,9 @@ pub on_is : (v : Values) (state : IrType) (nodes : List Node) (shown : Operand �
     → HaveOperandTypes state nodes s values → AllByRecursion (λ o. ShowsValue v (shown o) (operand_value s values o)) (optional_read predicate) → atom_value v on ≡ bit (is_on s values predicate)
 on_is v state nodes shown s values None on is typed h = is
 on_is v state nodes shown s values (Some o) on is typed h =
-    on_shown v on (operand_value s values o) (subst (λ t. IsOfType t (operand_value s values o)) is.1 (typed o)) (subst (λ atoms. ShowsValue v atoms (operand_value s values o)) is.0 h.0)
+    let of = subst (λ t. IsOfType t (operand_value s values o)) is.1 (typed o) in
+    let single = only_signal v 1 (shown o) (operand_value s values o) of h.0 ∙ ap (λ a. a ∷ []) (sym is.0) in
+    on_shown v on (operand_value s values o) of (subst (λ atoms. ShowsValue v atoms (operand_value s values o)) single h.0)
 
 turn_said : (v : Values) (site : SiteNets) (valid_word : Option Word) (room : Bool) (s : Value) (values : List Value) (n : Node) (rl : Role) → IsPartnerSignal v valid_word room site.partner rl
     → atom_value v site.on ≡ bit (is_on s values (predicate_of rl)) → TurnIs v site valid_word room (turn_of s values n rl)

@@ -8,6 +8,7 @@ use Rattle.xb_value.specs.declared.value.Value.TheOpen.{Value-F}
 use Rattle.vlog_tree.specs.declared.expression.Atom.{Atom}
 use Rattle.vlog_tree.specs.Value.{Values, atom_value}
 use Rattle.block_build.specs.Netlist.Gates.{net}
+use Rattle.block_build.specs.Netlist.Literals.{literal_atom}
 
 abbrev pub all_leaves : {A : Type 0} → List (List A) → List A
 all_leaves [] = []
@@ -30,6 +31,19 @@ ShowsValue v atoms value = map (atom_value v) atoms ≡ leaves_of value
 abbrev pub nets : ℕ → ℕ → List Atom
 nets k zero = []
 nets k (suc n) = net k ∷ nets (suc k) n
+
+-- the literal of a number
+abbrev pub word_atom : Word → Atom
+word_atom x = literal_atom x.width x.value
+
+-- the literals of the numbers in a value
+abbrev pub literals_of : Value → List Atom
+literals_of value = map word_atom (leaves_of value)
+
+-- the first of some signals
+abbrev pub first_or : List Atom → Atom
+first_or [] = literal_atom 1 0
+first_or (a ∷ atoms) = a
 
 -- ---- by types
 

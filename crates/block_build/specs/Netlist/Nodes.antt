@@ -22,7 +22,7 @@ use Rattle.ir_tree.specs.Types.{ty_of}
 use Rattle.ir_verify.specs.Fitting.{type_in, types_behind}
 use Rattle.vlog_tree.specs.declared.expression.Atom.{Atom}
 use Rattle.vlog_tree.specs.Value.{Values, bit, atom_value}
-use Rattle.block_build.specs.Netlist.Leaves.{ShowsValue}
+use Rattle.block_build.specs.Netlist.Leaves.{ShowsValue, first_or}
 use Rattle.block_build.specs.Netlist.Procs.{setting_by}
 use Rattle.block_build.specs.Netlist.Receives.{ReceiveNets}
 
@@ -133,10 +133,10 @@ AreHeard v channels proc nets stage j words =
 
 -- ---- sites
 
--- a signal says whether a site is on: it is the one signal of the predicate, which is a bit; or carries 1 where there is none
+-- a signal says whether a site is on: it is that of the predicate, which is a bit; or carries 1 where there is none
 abbrev pub IsOnSignal : Values → IrType → List Node → (Operand → List Atom) → Option Operand → Atom → Type 0
 IsOnSignal v state nodes shown None on = atom_value v on ≡ bit true
-IsOnSignal v state nodes shown (Some o) on = (shown o ≡ on ∷ []) × (ty_of (type_in (types_behind state nodes) o) ≡ ty.Bits 1)
+IsOnSignal v state nodes shown (Some o) on = (on ≡ first_or (shown o)) × (ty_of (type_in (types_behind state nodes) o) ≡ ty.Bits 1)
 
 -- and whether its partner is there: a word that is received, or room for one that is sent
 abbrev pub IsPartnerSignal : Values → Option Word → Bool → Atom → Role → Type 0
