@@ -1,6 +1,6 @@
-ghost use Rattle.std.specs.Prelude.{◌≡◌, ◌<◌, ◌≤◌, ◌+◌, IfOk, Some};
-ghost use Rattle.task_queue.specs.Passes.{IsTaskPass, knows};
-ghost use Rattle.task_queue.specs.Round.Shares.{AreAll, HoldsNone};
+ghost use Rattle.std.specs.Prelude.{◌≡◌, ◌≤◌, ◌+◌, ℕ, IfOk, Some, length};
+ghost use Rattle.task_queue.specs.Tasks.{sum_below};
+ghost use Rattle.task_queue.specs.Passes.{AreTasks, sum_numbers};
 
 use std::alloc::{AllocError, Global};
 use std::sync::Wait;
@@ -8,8 +8,8 @@ use std::sync::atomic::{AtomicBool, Ordering};
 use std::test::Fail;
 use std::thread;
 use std::thread::Threads;
-use task_queue::round::{Share, Steps, round};
-use task_queue::{Numbered, TaskPass, TaskQueue, make};
+use task_queue::Numbered;
+use task_queue::round::{RoundEnd, Steps, round};
 use xb_io::{Gate, OpenGate};
 
 /// A task that makes so many events more.
@@ -74,20 +74,16 @@ impl Gate for Meeting {
     }
 }
 
-/// A queue in which so many tasks wait, each with 100 events to make.
-fn waiting<R: Wait>(
-    rt: &R,
-    alloc: Global,
-    count: u32,
-) -> Result<(TaskQueue<u32, Counter>, TaskPass<u32, Counter>), AllocError>
-    requires { 0 < count }
-    ensures { IfOk result (λ made. IsTaskPass made.0 made.1 × HoldsNone (knows made.1) × ((knows made.1).parts ≡ 1024) × ((knows made.1).count ≡ count)) }
+/// So many tasks, each with 100 events to make.
+fn counters(alloc: Global, count: u32) -> Result<Vec<Counter>, AllocError>
+    ensures { IfOk result (λ tasks. (length tasks.items ≡ count) × AreTasks {N = ℕ} (λ task. 0) (λ task. Unit {0}) (Some 0) tasks.items
+        × ((h : ℕ → ℕ) → sum_numbers (λ task. task.number) h tasks.items ≡ sum_below h count)) }
 {
-    let (queue, mut pass) = make(alloc, count)?;
+    let mut tasks = Vec::new(alloc);
     for number in 0..count {
-        queue.start(rt, &mut pass, Counter { number, left: 100 });
+        tasks.push(Counter { number, left: 100 })?;
     }
-    Ok((queue, pass))
+    Ok(tasks)
 }
 
 /// One round of workers over so many tasks.
@@ -97,23 +93,23 @@ fn by_workers<R: Threads + Wait + Sync, G: Gate + Sync>(
     count: u32,
     workers: u32,
     gate: &G,
-) -> Result<Share<u32, Counter>, AllocError>
-    requires { (0 < count) × (1 ≤ workers) × (workers ≤ 16) }
-    ensures { IfOk result (λ share. AreAll (λ task. task.number) count share.parked.items) }
+) -> Result<RoundEnd<Counter>, AllocError>
+    requires { (1 ≤ workers) × (workers ≤ 16) }
+    ensures { IfOk result (λ over. (h : ℕ → ℕ) → sum_numbers (λ task. task.number) h over.tasks.items ≡ sum_below h count) }
 {
-    let (queue, pass) = waiting(rt, alloc, count)?;
-    round(rt, alloc, &queue, pass, workers, gate)
+    let tasks = counters(alloc, count)?;
+    round(rt, alloc, 0, tasks, workers, gate)
 }
 
 #[test]
 fn all_tasks_come_back(rt: HostRuntime) -> Result<(), Fail> {
     for workers in [1, 2, 4, 16] {
-        let share = by_workers(&rt, rt.alloc(), 40, workers, &OpenGate)?;
-        assert_eq!(rt; share.parked.len(), 40);
-        assert!(rt; share.moved);
-        assert!(rt; share.parked.iter().all(|task| task.left == 0));
+        let over = by_workers(&rt, rt.alloc(), 40, workers, &OpenGate)?;
+        assert_eq!(rt; over.tasks.len(), 40);
+        assert!(rt; over.moved);
+        assert!(rt; over.tasks.iter().all(|task| task.left == 0));
         for number in 0..40 {
-            assert!(rt; share.parked.iter().any(|task| task.number == number));
+            assert!(rt; over.tasks.iter().any(|task| task.number == number));
         }
     }
     Ok(())
@@ -126,8 +122,8 @@ fn two_workers_meet(rt: HostRuntime) -> Result<(), Fail> {
         second: AtomicBool::new(false),
         missed: AtomicBool::new(false),
     };
-    let share = by_workers(&rt, rt.alloc(), 2, 2, &gate)?;
-    assert_eq!(rt; share.parked.len(), 2);
+    let over = by_workers(&rt, rt.alloc(), 2, 2, &gate)?;
+    assert_eq!(rt; over.tasks.len(), 2);
     assert!(rt; !gate.missed.load(Ordering::SeqCst));
     Ok(())
 }

@@ -71,8 +71,8 @@ pub fn run_threads<B: Body + Sync, R: Threads + Wait + Sync, G: Gate + Sync>(
         given: &given,
         queues: queues.as_slice(),
     };
-    let (queue, pass) = start(rt, alloc, &runtime, net.procs.as_slice(), ends)?;
+    let tasks = start(alloc, &runtime, net.procs.as_slice(), ends)?;
     run_to_end(
-        rt, alloc, &runtime, net, inputs, depths, &queue, pass, workers, gate,
+        rt, alloc, &runtime, net, inputs, depths, tasks, workers, gate,
     )
 }

@@ -1,13 +1,11 @@
-ghost use Rattle.std.specs.Prelude.{◌≡◌, ◌<◌, ◌+◌, ◌^◌, IfOk, Some, length};
+ghost use Rattle.std.specs.Prelude.{◌≡◌, ◌<◌, ◌+◌, ◌^◌, IfOk, length};
 ghost use Rattle.base.specs.Lists.Indexed.{indexed};
 ghost use Rattle.net_core.specs.declared.net.Chan.{Chan};
 ghost use Rattle.net_core.specs.Cuts.{index_of};
 ghost use Rattle.chan_queue.specs.Streams.Moves.{IsTyped};
-ghost use Rattle.task_queue.specs.Passes.{IsTaskPass, knows};
 ghost use Rattle.proc_task.specs.Moving.{IsTask};
-ghost use Rattle.task_queue.specs.Round.Shares.{HoldsNone};
 ghost use Rattle.proc_task.specs.Outcome.Places.{head_sends, head_receives};
-ghost use Rattle.proc_runner.specs.Inner.Started.{AreHeads, IsHead, AreLeft};
+ghost use Rattle.proc_runner.specs.Inner.Started.{AreHeads, IsHead, AreLeft, AreRunTasks};
 
 use crate::ports::{indices, inlets, outlets};
 use chan_queue::{RecvPass, SendPass, Streams};
@@ -15,8 +13,6 @@ use net_core::{Net, ProcHead};
 use proc_task::outcome::{receiver, sender};
 use proc_task::{Runtime, Task};
 use std::alloc::{AllocError, Global};
-use std::sync::Wait;
-use task_queue::{TaskPass, TaskQueue, make};
 
 /// The rights to the ends of all channels that no proc has taken yet, and who is at the ends.
 #[derive(Drop)]
@@ -51,27 +47,25 @@ pub(crate) fn receivers(alloc: Global, net: &Net) -> Result<Vec<usize>, AllocErr
     Ok(procs)
 }
 
-/// All tasks of a run wait in a new queue.
-pub(crate) fn start<S: Streams, H: Runtime<S>, R: Wait>(
-    rt: &R,
+/// All tasks of a run, in the order of their procs.
+pub(crate) fn start<S: Streams, H: Runtime<S>>(
     alloc: Global,
     runtime: &H,
     heads: &[ProcHead],
     mut ends: Ends<S>,
-) -> Result<(TaskQueue<H, Task<S, H>>, TaskPass<H, Task<S, H>>), AllocError>
-    requires heads { (0 < length heads.now) × (length heads.now < 2 ^ 32) }
+) -> Result<Vec<Task<S, H>>, AllocError>
+    requires heads { length heads.now < 2 ^ 32 }
     requires typed { IsTyped (H.run runtime.now) }
     requires run { AreHeads (H.run runtime.now) heads.now }
     requires ends { AreLeft (H.run runtime.now) (H.lines runtime.now) 0 ends.senders.items ends.receivers.items ends.sends.items ends.recvs.items }
-    ensures { IfOk result (λ made. IsTaskPass made.0 made.1 × HoldsNone (knows made.1) × ((knows made.1).parts ≡ 1024)
-        × ((knows made.1).count ≡ length heads.now) × ((knows made.1).run ≡ Some runtime.now)) }
+    ensures { IfOk result (λ tasks. AreRunTasks H.run H.lines runtime.now (length heads.now) tasks.items) }
 {
-    let (queue, mut pass) = make(alloc, heads.len() as u32)?;
+    let mut tasks = Vec::new(alloc);
     for (p, head) in heads.iter().enumerate() {
         let task = new_task(alloc, runtime, p, head, &mut ends)?;
-        queue.start(rt, &mut pass, task);
+        tasks.push(task)?;
     }
-    Ok((queue, pass))
+    Ok(tasks)
 }
 
 /// The task of a proc, which takes its rights.

@@ -1,6 +1,12 @@
--- where the tasks of a run stand, and the rule of a run queue
+-- sums over numbers
 pub mod Tasks
--- the passes beside the queue
+-- the deque of a worker
+pub mod Lane
+-- a deque at its owner's end, and rights on others
+pub mod Seats
+-- the passes of a queue
 pub mod Passes
--- a round of workers over a queue of tasks
+-- contracts of private functions
+pub mod Inner
+-- a round of workers over the tasks of a run
 pub mod Round

@@ -1,4 +1,4 @@
--- what a worker brings back from a round, and all tasks of a run
-pub mod Shares
+-- what holds of the tasks behind a round
+pub mod Tasks
 -- contracts of private functions
 pub mod Inner

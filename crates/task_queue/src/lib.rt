@@ -1,13 +1,18 @@
 //! The tasks that wait to run, for several threads that take them.
 //!
-//! A queue under a rule: each number that was started stands once, in the queue or in the hand of one pass, and each
-//! task is of one run. So no task is lost and none is run by two threads at once, whatever the threads do. No lock is
+//! Each worker has a deque of its own, and steals from the others where it is empty. Each deque is under a rule: what was put there is
+//! what was taken and what lies there. So no task is lost and none is run by two threads at once, whatever the threads do. No lock is
 //! taken, and no call but `make` takes memory.
 #![tactic(auto)]
 
-mod hand;
+mod exchange;
+pub mod lane;
+mod making;
+mod numbered;
 mod queue;
 pub mod round;
+mod seat;
 
-pub use hand::{Hand, Numbered};
-pub use queue::{TaskPass, TaskQueue, make};
+pub use making::make;
+pub use numbered::Numbered;
+pub use queue::{TaskPass, TaskQueue};

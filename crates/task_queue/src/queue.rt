@@ -1,104 +1,265 @@
-ghost use Rattle.std.specs.Prelude.{◌≡◌, ◌<◌, ◌++◌, ◌∷◌, ◌⊎◌, [], suc, IsTrue, IfOk, MatchOption, Some};
-ghost use Rattle.task_queue.specs.Tasks.{unused, keeping, giving, both, without, is_held, AreAllBelow};
-ghost use Rattle.task_queue.specs.Passes.{IsTaskPass, knows, capacity_of};
+ghost use Rattle.std.specs.Prelude.{◌≡◌, ◌<◌, ◌≤◌, ◌+◌, ◌++◌, ◌∷◌, ℕ, suc, true, false, List, Option, MatchOption, IfNone, Some, length, slice_get, option_map};
+ghost use Rattle.task_queue.specs.declared.lane.tally.Tally.{Tally};
+ghost use Rattle.task_queue.specs.Lane.Steps.{IsExhausted};
+ghost use Rattle.task_queue.specs.Lane.Handles.{IsWindow, IsThiefOf, window_deque, thief_knows};
+ghost use Rattle.task_queue.specs.Seats.{Each, AreApart, AreWindows, AreRights, rights_know};
+ghost use Rattle.task_queue.specs.Inner.Exchange.{MayExchangeAll, AreExchanged, MayUniteAll, AreUnited, gets, gives};
+ghost use Rattle.task_queue.specs.Inner.Looks.{IsAnyLane, KeepSeats, IsTakenAmong, IsStolenBy};
+ghost use Rattle.task_queue.specs.Passes.{AreExhausted, IsStolen, IsTaskPass, IsSamePass, KnowsRun, IsDealt, OwnsAll, FoundEmpty, HasRoom, HasRoomOn, owned, places, seats, put_by, taken_by};
 
-use crate::hand::{Hand, Numbered, Parts, Puts, Starts, Takes, TaskRule};
-use crossbeam_queue::{Pass, RuledArrayQueue};
-use std::alloc::{AllocError, Global};
+use crate::Numbered;
+use crate::exchange::{part, part_all, unite, unite_all};
+use crate::lane::{Thief, Window};
+use crate::seat::{Seat, take_among};
+use std::alloc::Global;
 use std::sync::Wait;
 
-/// The tasks that wait to run.
+/// The tasks that wait to run, in a deque for each worker. This is what all threads share of it.
 #[derive(Drop)]
-pub struct TaskQueue<N, T: Numbered<N>> {
-    line: RuledArrayQueue<T, Hand<N>, TaskRule>,
+pub struct TaskQueue<N: Drop, T: Numbered<N>> {
+    pub(crate) windows: Vec<Window<N, T>>,
 }
 
-/// What a thread may do with a run queue, and which tasks it holds. It has no bytes.
+/// What a thread may do with a queue: it owns one deque or more, and may steal from each other.
 #[derive(Drop)]
-pub struct TaskPass<N, T: Numbered<N>> {
-    pass: Pass<T, Hand<N>>,
+pub struct TaskPass<N: Drop, T: Numbered<N>> {
+    pub(crate) first: Seat<N, T>,
+    pub(crate) more: Vec<Seat<N, T>>,
 }
 
-/// A run queue for `count` tasks, of which none is started, and its one pass.
-///
-/// It takes all the memory that the queue ever needs.
-pub fn make<N, T: Numbered<N>>(
-    alloc: Global,
-    count: u32,
-) -> Result<(TaskQueue<N, T>, TaskPass<N, T>), AllocError>
-    requires { 0 < count }
-    ensures { IfOk result (λ made. IsTaskPass made.0 made.1 × (knows made.1 ≡ unused) × (capacity_of made.0 ≡ count)) }
-{
-    let (line, pass) = RuledArrayQueue::ruled(alloc, count as usize)?;
-    Ok((TaskQueue { line }, TaskPass { pass }))
-}
-
-impl<N, T: Numbered<N>> TaskQueue<N, T> {
-    /// A task with the next number is put into the queue, by the one pass that there is yet.
-    pub fn start<R: Wait>(&self, rt: &R, pass: &mut TaskPass<N, T>, task: T)
-        requires pass { IsTaskPass self.now pass.old }
-        requires whole { (knows pass.old).parts ≡ 1024 }
-        requires number { T.number_of task ≡ (knows pass.old).count }
-        requires room { (knows pass.old).count < capacity_of self.now }
-        requires fact { T.fact task }
-        requires run { ((knows pass.old).count ≡ 0) ⊎ ((knows pass.old).run ≡ Some (T.run_of task)) }
-        ensures pass { IsTaskPass self.now pass.new }
-        ensures started { knows pass.new ≡ record (knows pass.old) { count = suc (knows pass.old).count; run = Some (T.run_of task) } }
+impl<N: Drop, T: Numbered<N>> TaskPass<N, T> {
+    /// The number of the first deque that the pass owns.
+    pub fn number(&self) -> u32
+        ensures { result ≡ self.now.first.number }
     {
-        match self.line.push_as::<Starts, R>(rt, &mut pass.pass, task) {
-            Ok(()) => {}
-            Err(_) => unreachable!(),
-        }
+        self.first.number
+    }
+}
+
+impl<N: Drop, T: Numbered<N>> TaskQueue<N, T> {
+    /// A task is put at the end of the pass's first deque. It takes no memory.
+    pub fn put(&self, pass: &mut TaskPass<N, T>, task: T)
+        requires pass { IsTaskPass self.now pass.old }
+        requires room { HasRoom 1 pass.old }
+        requires run { KnowsRun (Some (T.run_of task)) pass.old }
+        requires fact { T.fact task }
+        ensures pass { IsTaskPass self.now pass.new × IsSamePass pass.old pass.new }
+        ensures room { (n : ℕ) → HasRoom (suc n) pass.old → HasRoom n pass.new }
+        ensures put { (h : ℕ → ℕ) → (put_by h pass.new ≡ put_by h pass.old + h (T.number_of task)) × (taken_by h pass.new ≡ taken_by h pass.old) }
+    {
+        pass.first.lane.put(task);
     }
 
-    /// A task goes from the pass's hand to the end of the queue.
-    pub fn put<R: Wait>(&self, rt: &R, pass: &mut TaskPass<N, T>, task: T)
-        requires pass { IsTaskPass self.now pass.old }
-        requires held { IsTrue (is_held (T.number_of task) (knows pass.old).held) }
-        requires run { (knows pass.old).run ≡ Some (T.run_of task) }
-        requires fact { T.fact task }
-        ensures pass { IsTaskPass self.now pass.new }
-        ensures put { knows pass.new ≡ record (knows pass.old) { held = without (T.number_of task) (knows pass.old).held } }
-    {
-        match self.line.push_as::<Puts, R>(rt, &mut pass.pass, task) {
-            Ok(()) => {}
-            Err(_) => unreachable!(),
-        }
-    }
-
-    /// The first task of the queue goes to the pass's hand, unless the queue is empty. A pass with all parts then has
-    /// all numbers in its hand.
+    /// The front task of the first of the pass's deques that has one, or one that is stolen from the others, in the order of their numbers
+    /// from the first one's on, unless each deque was empty at a moment of its own. If the pass owns all deques, then all that was put was
+    /// taken.
     pub fn take<R: Wait>(&self, rt: &R, pass: &mut TaskPass<N, T>) -> Option<T>
         requires { IsTaskPass self.now pass.old }
-        ensures pass { IsTaskPass self.now pass.new }
+        ensures pass { IsTaskPass self.now pass.new × IsSamePass pass.old pass.new }
+        ensures room { (n : ℕ) → HasRoom n pass.old → HasRoom n pass.new }
+        ensures put { (h : ℕ → ℕ) → put_by h pass.new ≡ put_by h pass.old }
         ensures taken { MatchOption result
-            ((knows pass.new ≡ knows pass.old) × ((knows pass.old).parts ≡ 1024 → AreAllBelow (knows pass.old).count (knows pass.old).held))
-            (λ task. (knows pass.new ≡ record (knows pass.old) { held = (knows pass.old).held ++ T.number_of task ∷ [] })
-            × ((knows pass.old).run ≡ Some (T.run_of task)) × T.fact task) }
+            (((h : ℕ → ℕ) → taken_by h pass.new ≡ taken_by h pass.old) × FoundEmpty pass.old)
+            (λ task. ((h : ℕ → ℕ) → taken_by h pass.new ≡ taken_by h pass.old + h (T.number_of task))
+            × ((run : Option N) → KnowsRun run pass.old → run ≡ Some (T.run_of task)) × T.fact task) }
+        ensures all { IfNone result (OwnsAll self.now pass.old → IsDealt pass.old → (h : ℕ → ℕ) → put_by h pass.new ≡ taken_by h pass.new) }
     {
-        self.line.pop_as::<Takes, R>(rt, &mut pass.pass)
-    }
-
-    /// A pass with an empty hand, for another thread.
-    pub fn split(&self, pass: &mut TaskPass<N, T>) -> TaskPass<N, T>
-        requires pass { IsTaskPass self.now pass.old }
-        requires parts { 1 < (knows pass.old).parts }
-        ensures pass { IsTaskPass self.now pass.new × (knows pass.new ≡ keeping (knows pass.old)) }
-        ensures new { IsTaskPass self.now result × (knows result ≡ giving (knows pass.old)) }
-    {
-        TaskPass {
-            pass: self.line.another::<Parts>(&mut pass.pass),
+        match take_own(pass) {
+            Some(task) => Some(task),
+            None => steal(
+                rt,
+                self.windows.as_slice(),
+                &mut pass.first.rights,
+                pass.first.number as usize,
+            ),
         }
     }
 
-    /// A pass comes back, with what is in its hand.
-    pub fn join(&self, pass: &mut TaskPass<N, T>, other: TaskPass<N, T>)
-        requires pass { IsTaskPass self.now pass.old }
-        requires other { IsTaskPass self.now other }
-        ensures pass { IsTaskPass self.now pass.new }
-        ensures joined { knows pass.new ≡ both (knows pass.old) (knows other) }
+    /// A pass that owns the last deque of this one, which has two or more. It takes no memory.
+    pub fn split(&self, alloc: Global, pass: &mut TaskPass<N, T>) -> TaskPass<N, T>
+        requires pass { IsTaskPass self.now pass.old × IsDealt pass.old }
+        requires two { 2 ≤ length (seats pass.old) }
+        ensures passes { IsTaskPass self.now pass.new × IsTaskPass self.now result × IsDealt pass.new × IsDealt result }
+        ensures deques { (owned pass.old ≡ owned pass.new ++ owned result) × (length (owned result) ≡ 1) × (places pass.new ≡ places pass.old) }
+        ensures run { (run : Option N) → KnowsRun run pass.old → KnowsRun run pass.new × KnowsRun run result }
+        ensures room { (d n : ℕ) → HasRoomOn d n pass.old → HasRoomOn d n pass.new × HasRoomOn d n result }
+        ensures sums { (h : ℕ → ℕ) → (put_by h pass.new + put_by h result ≡ put_by h pass.old) × (taken_by h pass.new + taken_by h result ≡ taken_by h pass.old) }
     {
-        let TaskPass { pass: other } = other;
-        self.line.absorb::<Parts>(&mut pass.pass, other);
+        let mut seat = match pass.more.pop() {
+            Some(seat) => seat,
+            None => unreachable!(),
+        };
+        leave(pass, &mut seat);
+        TaskPass {
+            first: seat,
+            more: Vec::new(alloc),
+        }
+    }
+
+    /// What another pass owns comes to this one, which has places for it, as the one that `make` gave always has. It takes no memory.
+    pub fn join(&self, pass: &mut TaskPass<N, T>, other: TaskPass<N, T>)
+        requires pass { IsTaskPass self.now pass.old × IsDealt pass.old }
+        requires other { IsTaskPass self.now other × IsDealt other }
+        requires apart { AreApart (owned pass.old) (owned other) }
+        requires reserve { length (owned pass.old) + length (owned other) ≤ places pass.old }
+        ensures pass { IsTaskPass self.now pass.new × IsDealt pass.new }
+        ensures deques { (owned pass.new ≡ owned pass.old ++ owned other) × (places pass.old ≤ places pass.new) }
+        ensures run { (run : Option N) → KnowsRun run pass.old → KnowsRun run other → KnowsRun run pass.new }
+        ensures room { (d n : ℕ) → HasRoomOn d n pass.old → HasRoomOn d n other → HasRoomOn d n pass.new }
+        ensures sums { (h : ℕ → ℕ) → (put_by h pass.new ≡ put_by h pass.old + put_by h other) × (taken_by h pass.new ≡ taken_by h pass.old + taken_by h other) }
+    {
+        let TaskPass {
+            mut first,
+            mut more,
+        } = other;
+        meet(pass, &mut first);
+        meet_all(pass, &mut more);
+        take_in(pass, first, more);
+    }
+}
+
+/// The front task of the first of the pass's deques that has one.
+fn take_own<N: Drop, T: Numbered<N>>(pass: &mut TaskPass<N, T>) -> Option<T>
+    requires { Each IsAnyLane (seats pass.old) }
+    ensures keep { (windows : List (Window _ _)) → KeepSeats windows (seats pass.old) (seats pass.new) }
+    ensures same { (pass.new.first.number ≡ pass.old.first.number) × (pass.new.first.rights ≡ pass.old.first.rights) × (places pass.new ≡ places pass.old) }
+    ensures room { (n : ℕ) → HasRoom n pass.old → HasRoom n pass.new }
+    ensures taken { IsTakenAmong T.number_of T.run_of T.fact (seats pass.old) (seats pass.new) result }
+{
+    match pass.first.lane.take() {
+        Some(task) => Some(task),
+        None => take_among(&mut pass.more),
+    }
+}
+
+/// The first task of a deque whose number isn't this one, in the order of their numbers from this one on.
+fn steal<N: Drop, T: Numbered<N>, R: Wait>(
+    rt: &R,
+    windows: &[Window<N, T>],
+    rights: &mut Vec<Option<Thief<N, T>>>,
+    number: usize,
+) -> Option<T>
+    requires windows { AreWindows windows.now }
+    requires rights { AreRights windows.now rights.old.items }
+    requires number { number < length windows.now }
+    ensures rights { AreRights windows.now rights.new.items }
+    ensures stolen { MatchOption result
+        ((rights_know rights.new.items ≡ rights_know rights.old.items) × AreExhausted number (rights_know rights.old.items))
+        (λ task. IsStolen T.number_of T.run_of T.fact (rights_know rights.old.items) (rights_know rights.new.items) task) }
+{
+    match steal_among(rt, windows, rights, number + 1, windows.len()) {
+        Some(task) => Some(task),
+        None => steal_among(rt, windows, rights, 0, number),
+    }
+}
+
+/// The first task of the deques from this number to that one, but for those on which there is no right.
+fn steal_among<N: Drop, T: Numbered<N>, R: Wait>(
+    rt: &R,
+    windows: &[Window<N, T>],
+    rights: &mut Vec<Option<Thief<N, T>>>,
+    from: usize,
+    to: usize,
+) -> Option<T>
+    requires windows { AreWindows windows.now }
+    requires rights { AreRights windows.now rights.old.items }
+    requires within { to ≤ length windows.now }
+    ensures rights { AreRights windows.now rights.new.items }
+    ensures stolen { MatchOption result
+        ((rights_know rights.new.items ≡ rights_know rights.old.items)
+        × ((k : ℕ) (v : Tally N) → slice_get (rights_know rights.old.items) k ≡ Some (Some v) → from ≤ k → k < to → IsExhausted v))
+        (λ task. IsStolen T.number_of T.run_of T.fact (rights_know rights.old.items) (rights_know rights.new.items) task) }
+{
+    for k in from..to {
+        if let Some(task) = steal_at(rt, windows, rights, k) {
+            return Some(task);
+        }
+    }
+    None
+}
+
+/// The first task of the deque with this number.
+fn steal_at<N: Drop, T: Numbered<N>, R: Wait>(
+    rt: &R,
+    windows: &[Window<N, T>],
+    rights: &mut Vec<Option<Thief<N, T>>>,
+    k: usize,
+) -> Option<T>
+    requires windows { AreWindows windows.now }
+    requires rights { AreRights windows.now rights.old.items }
+    requires within { k < length windows.now }
+    ensures rights { AreRights windows.now rights.new.items }
+    ensures stolen { MatchOption result
+        ((rights_know rights.new.items ≡ rights_know rights.old.items) × ((v : Tally N) → slice_get (rights_know rights.old.items) k ≡ Some (Some v) → IsExhausted v))
+        (λ task. IsStolen T.number_of T.run_of T.fact (rights_know rights.old.items) (rights_know rights.new.items) task) }
+{
+    steal_by(rt, &windows[k], &mut rights[k])
+}
+
+/// The first task of a deque, if there is a right on it.
+fn steal_by<N: Drop, T: Numbered<N>, R: Wait>(
+    rt: &R,
+    window: &Window<N, T>,
+    right: &mut Option<Thief<N, T>>,
+) -> Option<T>
+    requires window { IsWindow window.now }
+    requires right { (thief : Thief _ _) → right.old ≡ Some thief → IsThiefOf (window_deque window.now) thief }
+    ensures right { (thief : Thief _ _) → right.new ≡ Some thief → IsThiefOf (window_deque window.now) thief }
+    ensures stolen { IsStolenBy T.number_of T.run_of T.fact (option_map thief_knows right.old) (option_map thief_knows right.new) result }
+{
+    match right {
+        Some(thief) => window.steal(rt, thief),
+        None => None,
+    }
+}
+
+/// A seat leaves a pass.
+fn leave<N: Drop, T: Numbered<N>>(pass: &mut TaskPass<N, T>, seat: &mut Seat<N, T>)
+    requires { MayExchangeAll true (seats pass.old) seat.old }
+    ensures exchanged { AreExchanged gets (seats pass.old) seat.old (seats pass.new) seat.new }
+    ensures reserve { places pass.new ≡ places pass.old }
+{
+    part(&mut pass.first, seat);
+    part_all(&mut pass.more, seat);
+}
+
+/// A seat of another pass is going to come to a pass.
+fn meet<N: Drop, T: Numbered<N>>(pass: &mut TaskPass<N, T>, seat: &mut Seat<N, T>)
+    requires { MayExchangeAll false (seats pass.old) seat.old }
+    ensures exchanged { AreExchanged gives (seats pass.old) seat.old (seats pass.new) seat.new }
+    ensures reserve { places pass.new ≡ places pass.old }
+{
+    unite(&mut pass.first, seat);
+    unite_all(&mut pass.more, seat);
+}
+
+/// Several are.
+fn meet_all<N: Drop, T: Numbered<N>>(pass: &mut TaskPass<N, T>, more: &mut Vec<Seat<N, T>>)
+    requires { MayUniteAll (seats pass.old) more.old.items }
+    ensures united { AreUnited (seats pass.old) more.old.items (seats pass.new) more.new.items }
+    ensures reserve { places pass.new ≡ places pass.old }
+{
+    for k in 0..more.len() {
+        meet(pass, &mut more[k]);
+    }
+}
+
+/// They come to it.
+fn take_in<N: Drop, T: Numbered<N>>(
+    pass: &mut TaskPass<N, T>,
+    first: Seat<N, T>,
+    mut more: Vec<Seat<N, T>>,
+)
+    requires { length (seats pass.old) + suc (length more.items) ≤ places pass.old }
+    ensures items { (pass.new.first ≡ pass.old.first) × (pass.new.more.items ≡ pass.old.more.items ++ first ∷ more.items) }
+    ensures reserve { places pass.old ≤ places pass.new }
+{
+    match pass.more.push(first) {
+        Ok(()) => {}
+        Err(_) => unreachable!(),
+    }
+    match pass.more.append(&mut more) {
+        Ok(()) => {}
+        Err(_) => unreachable!(),
     }
 }

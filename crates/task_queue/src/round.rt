@@ -1,4 +1,5 @@
-//! A round of workers over the tasks of a run, whatever they do: each worker takes tasks from one queue, and all come back in the end.
+//! A round of workers over the tasks of a run, whatever they do: each worker takes tasks from its own deque and steals from the others,
+//! and all tasks come back in the end.
 //!
 //! No task is lost and none comes back twice, whatever the threads do.
 mod pulse;
@@ -7,6 +8,5 @@ mod share;
 mod steps;
 mod worker;
 
-pub use rounds::{put_back, round};
-pub use share::Share;
+pub use rounds::{RoundEnd, round};
 pub use steps::Steps;

@@ -8,6 +8,10 @@ use Rattle.net_core.specs.declared.net.Chan.{Chan}
 use Rattle.net_core.specs.declared.net.ProcHead.{ProcHead}
 use Rattle.net_core.specs.declared.net.Kind.TheVariants.{Input, Output}
 use Rattle.net_core.specs.Cuts.{Proc, Run, sender, receiver}
+use Rattle.task_queue.specs.Tasks.{sum_below}
+use Rattle.task_queue.specs.Passes.{AreTasks, sum_numbers}
+use Rattle.proc_task.specs.declared.task.Task.{Task}
+use Rattle.proc_task.specs.Moving.{IsTask}
 use Rattle.proc_runner.specs.Inner.Opened.{HasSend, HasRecv}
 
 -- this is the head of proc p
@@ -34,3 +38,9 @@ module _ {S : Type 0} where
     pub receivers_are : (c : ℕ) → c < length run.chans → slice_get receivers c ≡ Some (receiver run c)
     pub send : (c : ℕ) (chan : Chan) → slice_get run.chans c ≡ Some chan → chan.kind ≢ Input → p ≤ sender run c → HasSend run queues sends c chan
     pub recv : (c : ℕ) (chan : Chan) → slice_get run.chans c ≡ Some chan → chan.kind ≢ Output → p ≤ receiver run c → HasRecv run queues recvs c chan
+
+module _ {S H : Type 0} (run : H → Run) (lines : H → List (Option (ChanQueue S))) where
+  -- these are the tasks of so many procs of a run, each once, whatever is added up over their numbers
+  pub record AreRunTasks (runtime : H) (count : ℕ) (tasks : List (Task S H)) : Type 0 where
+    pub each : AreTasks (λ (task : Task S H). task.runtime) (λ task. IsTask (run task.runtime) (lines task.runtime) task) (Some runtime) tasks
+    pub all : (h : ℕ → ℕ) → sum_numbers (λ (task : Task S H). task.number) h tasks ≡ sum_below h count

@@ -1,2 +1,4 @@
--- what the workers of a round get, and what they bring back
+-- what a worker has in a round
+pub mod Shares
+-- what the workers get, and what they bring back
 pub mod Jobs

@@ -1,130 +1,205 @@
-ghost use Rattle.std.specs.Prelude.{◌≡◌, ◌<◌, ◌≤◌, ◌+◌, ◌-◌, ℕ, false, IfOk, OnOk, length};
-ghost use Rattle.task_queue.specs.declared.hand.Hand.{Hand};
-ghost use Rattle.task_queue.specs.Tasks.{giving};
-ghost use Rattle.task_queue.specs.Passes.{IsTaskPass, knows};
-ghost use Rattle.task_queue.specs.Round.Shares.{IsShareOf, IsStill, AllWait, HoldsNone, AreAll};
-ghost use Rattle.task_queue.specs.Round.Inner.Jobs.{AreJobs, AreShares};
+ghost use Rattle.std.specs.Prelude.{◌≡◌, ◌<◌, ◌≤◌, ◌+◌, ◌^◌, ℕ, List, Option, false, IfOk, OnOk, Some, length, slice_get};
+ghost use Rattle.task_queue.specs.declared.queue.TaskPass.{TaskPass};
+ghost use Rattle.task_queue.specs.Seats.{numbers_below};
+ghost use Rattle.task_queue.specs.Passes.{IsTaskPass, IsNewPass, IsDealt, OwnsAll, KnowsRun, HasRoom, HasRoomOn, AreTasks, owned, places, put_by, taken_by, sum_numbers};
+ghost use Rattle.task_queue.specs.Round.Tasks.{AllWait};
+ghost use Rattle.task_queue.specs.Round.Inner.Shares.{MayWork, IsShareOf};
+ghost use Rattle.task_queue.specs.Round.Inner.Jobs.{AreJobs, HasPut, AreSharesOf, CanGather, IsGathered};
 
 use crate::round::pulse::Pulse;
 use crate::round::share::Share;
 use crate::round::steps::Steps;
-use crate::round::worker::work;
-use crate::{TaskPass, TaskQueue};
+use crate::round::worker::{TURNS, work};
+use crate::{TaskPass, TaskQueue, make};
 use std::alloc::{AllocError, Global};
 use std::sync::Wait;
 use std::thread;
 use std::thread::Threads;
 use xb_io::Gate;
 
-/// What a worker gets for a round.
+/// The tasks behind a round, and whether any of them has made an event in it.
 #[derive(Drop)]
-pub(crate) struct Job<N, T: Steps<N>> {
-    pass: TaskPass<N, T>,
-    worker: u32,
+pub struct RoundEnd<T> {
+    pub tasks: Vec<T>,
+    pub moved: bool,
 }
 
-/// One round: each worker takes tasks from the queue until its turns are used up, and then all tasks are in one hand. If no
+/// One round: each worker takes tasks from a queue that is made for it until its turns are used up, and then all tasks come back. If no
 /// task has moved, each of them waits, as far as it knows.
 ///
 /// Each worker has a thread of its own, but one worker alone takes none.
-pub fn round<N: Send + Sync, T: Steps<N> + Send, R: Threads + Wait + Sync, G: Gate + Sync>(
+pub fn round<
+    N: Copy + Drop + Send + Sync,
+    T: Steps<N> + Send,
+    R: Threads + Wait + Sync,
+    G: Gate + Sync,
+>(
+    rt: &R,
+    alloc: Global,
+    run: N,
+    tasks: Vec<T>,
+    workers: u32,
+    gate: &G,
+) -> Result<RoundEnd<T>, AllocError>
+    requires tasks { AreTasks T.run_of T.fact (Some run) tasks.items × (length tasks.items < 2 ^ 32) }
+    requires workers { (1 ≤ workers) × (workers ≤ 16) }
+    ensures tasks { IfOk result (λ over. AreTasks T.run_of T.fact (Some run) over.tasks.items) }
+    ensures all { IfOk result (λ over. (h : ℕ → ℕ) → sum_numbers T.number_of h over.tasks.items ≡ sum_numbers T.number_of h tasks.items) }
+    ensures waits { IfOk result (λ over. over.moved ≡ false → AllWait T.waits over.tasks.items) }
+{
+    let (made, pass) = make(alloc, run, tasks.len() as u32, workers, TURNS)?;
+    let queue = &made;
+    let jobs = deal(alloc, queue, pass, tasks, workers)?;
+    let shares = work_all(rt, alloc, queue, jobs, gate)?;
+    let share = gather(queue, shares)?;
+    let Share {
+        mut pass,
+        parked: mut tasks,
+        moved,
+    } = share;
+    let rest = drain(rt, alloc, queue, &mut pass)?;
+    let moved = try_all(rt, alloc, rest, &mut tasks, moved)?;
+    Ok(RoundEnd { tasks, moved })
+}
+
+/// Each worker's part of a round.
+fn work_all<N: Drop + Send + Sync, T: Steps<N> + Send, R: Threads + Wait + Sync, G: Gate + Sync>(
     rt: &R,
     alloc: Global,
     queue: &TaskQueue<N, T>,
-    pass: TaskPass<N, T>,
-    workers: u32,
+    jobs: Vec<TaskPass<N, T>>,
     gate: &G,
-) -> Result<Share<N, T>, AllocError>
-    requires pass { IsTaskPass queue.now pass × HoldsNone (knows pass) }
-    requires parts { (knows pass).parts ≡ 1024 }
-    requires workers { (1 ≤ workers) × (workers ≤ 16) }
-    ensures { IfOk result (λ share. IsShareOf T.number_of T.run_of T.fact queue.now (knows pass) share × AreAll T.number_of (knows pass).count share.parked.items
-        × (share.moved ≡ false → AllWait T.waits share.parked.items)) }
+) -> Result<Vec<Result<Share<N, T>, AllocError>>, AllocError>
+    requires { (k : ℕ) (job : TaskPass _ _) → slice_get jobs.items k ≡ Some job → MayWork queue.now job }
+    ensures { IfOk result (λ shares. AreSharesOf T.number_of T.run_of T.fact T.waits queue.now jobs.items shares.items) }
 {
-    let mut share = Share {
-        pass,
-        parked: Vec::new(alloc),
-        moved: false,
-    };
     let pulse = Pulse::new();
-    let jobs = deal(alloc, queue, &mut share.pass, workers)?;
     let shares = thread::map_vec(
         rt,
         jobs,
-        &|job: Job<N, T>| -> Result<Share<N, T>, AllocError>
-            requires { IsTaskPass queue.now job.pass × HoldsNone (knows job.pass) }
-            ensures { IfOk result (λ share. IsShareOf T.number_of T.run_of T.fact queue.entry.now (knows job.pass) share × IsStill T.waits share) }
-        {
-            let Job { pass, worker } = job;
-            work(rt, alloc, queue, pass, &pulse, gate, worker)
-        },
+        &|pass: TaskPass<N, T>| -> Result<Share<N, T>, AllocError>
+            requires { MayWork queue.now pass }
+            ensures { IfOk result (λ share. IsShareOf T.number_of T.run_of T.fact T.waits queue.entry.now pass share) }
+        { work(rt, alloc, queue, pass, &pulse, gate) },
     )?;
-    gather(queue, &mut share, shares)?;
-    drain(rt, alloc, queue, &mut share)?;
-    Ok(share)
+    Ok(shares)
 }
 
-/// A pass for each worker.
-fn deal<N, T: Steps<N>>(
+/// A pass for each worker, the last one first. All tasks are put on the deque of the first one.
+fn deal<N: Drop, T: Steps<N>>(
     alloc: Global,
     queue: &TaskQueue<N, T>,
-    pass: &mut TaskPass<N, T>,
+    mut pass: TaskPass<N, T>,
+    tasks: Vec<T>,
     workers: u32,
-) -> Result<Vec<Job<N, T>>, AllocError>
-    requires pass { IsTaskPass queue.now pass.old }
-    requires parts { workers < (knows pass.old).parts }
-    ensures pass { OnOk result (IsTaskPass queue.now pass.new × (knows pass.new ≡ record (knows pass.old) { parts = (knows pass.old).parts - workers })) }
-    ensures jobs { IfOk result (λ jobs. (length jobs.items ≡ workers) × AreJobs queue.now (giving (knows pass.old)) jobs.items) }
+) -> Result<Vec<TaskPass<N, T>>, AllocError>
+    requires pass { (home : Option N) × IsNewPass queue.now home workers (length tasks.items + 1024) pass × AreTasks T.run_of T.fact home tasks.items }
+    requires workers { 1 ≤ workers }
+    ensures { IfOk result (λ jobs. (home : Option N) → IsNewPass queue.now home workers (length tasks.items + 1024) pass
+        → (put : TaskPass _ _) × HasPut T.number_of queue.now tasks.items pass put × AreJobs queue.now home 1024 workers put jobs.items) }
+{
+    put_all(queue, &mut pass, tasks);
+    split_all(alloc, queue, pass, workers)
+}
+
+/// A pass for each worker, the last one first.
+fn split_all<N: Drop, T: Steps<N>>(
+    alloc: Global,
+    queue: &TaskQueue<N, T>,
+    mut pass: TaskPass<N, T>,
+    workers: u32,
+) -> Result<Vec<TaskPass<N, T>>, AllocError>
+    requires pass { IsTaskPass queue.now pass × IsDealt pass × (owned pass ≡ numbers_below workers) × (workers ≤ places pass) }
+    requires room { (d : ℕ) → HasRoomOn d 1024 pass }
+    requires workers { 1 ≤ workers }
+    ensures { IfOk result (λ jobs. (home : Option N) → KnowsRun home pass → AreJobs queue.now home 1024 workers pass jobs.items) }
 {
     let mut jobs = Vec::new(alloc);
-    for worker in 0..workers {
-        let pass = queue.split(pass);
-        jobs.push(Job { pass, worker })?;
+    for _ in 1..workers {
+        let job = queue.split(alloc, &mut pass);
+        jobs.push(job)?;
     }
+    jobs.push(pass)?;
     Ok(jobs)
 }
 
-/// What the workers bring back comes into one hand.
-fn gather<N, T: Steps<N>>(
+/// All tasks are put on the deque of a pass.
+fn put_all<N: Drop, T: Steps<N>>(
     queue: &TaskQueue<N, T>,
-    share: &mut Share<N, T>,
-    mut shares: Vec<Result<Share<N, T>, AllocError>>,
-) -> Result<(), AllocError>
-    requires mine { IsTaskPass queue.now share.old.pass }
-    requires theirs { AreShares T.number_of T.run_of T.fact T.waits queue.now (giving (knows share.old.pass)) shares.items }
-    ensures share { OnOk result (IsShareOf T.number_of T.run_of T.fact queue.now (knows share.old.pass) share.old →
-        IsShareOf T.number_of T.run_of T.fact queue.now (record (knows share.old.pass) { parts = (knows share.old.pass).parts + length shares.items }) share.new) }
-    ensures still { OnOk result (IsStill T.waits share.old → IsStill T.waits share.new) }
+    pass: &mut TaskPass<N, T>,
+    mut tasks: Vec<T>,
+)
+    requires pass { IsTaskPass queue.now pass.old }
+    requires room { HasRoom (length tasks.items) pass.old }
+    requires run { (home : Option N) × KnowsRun home pass.old × AreTasks T.run_of T.fact home tasks.items }
+    ensures { HasPut T.number_of queue.now tasks.items pass.old pass.new }
 {
-    while let Some(other) = shares.pop() {
-        share.absorb(queue, other?)?;
+    while let Some(task) = tasks.pop() {
+        queue.put(pass, task);
     }
-    Ok(())
 }
 
-/// The tasks that wait in the queue come into the hand too. As long as no task has moved, each of them is tried.
-fn drain<N, T: Steps<N>, R: Wait>(
+/// What the workers bring back comes together.
+fn gather<N: Drop, T: Steps<N>>(
+    queue: &TaskQueue<N, T>,
+    mut shares: Vec<Result<Share<N, T>, AllocError>>,
+) -> Result<Share<N, T>, AllocError>
+    requires { (home : Option N) × (jobs : List (TaskPass _ _)) × (workers : ℕ) × CanGather T.number_of T.run_of T.fact T.waits queue.now home workers jobs shares.items }
+    ensures { IfOk result (λ share. (home : Option N) (jobs : List (TaskPass _ _)) (workers : ℕ)
+        → CanGather T.number_of T.run_of T.fact T.waits queue.now home workers jobs shares.items
+        → IsGathered T.number_of T.run_of T.fact T.waits queue.now home (numbers_below workers) jobs share) }
+{
+    let first = match shares.pop() {
+        Some(share) => share,
+        None => unreachable!(),
+    };
+    let mut all = first?;
+    while let Some(next) = shares.pop() {
+        let share = next?;
+        all.take_in(queue, share)?;
+    }
+    Ok(all)
+}
+
+/// The tasks that still lie in the deques, all of which the pass owns. So what was put on any of them was taken.
+fn drain<N: Drop, T: Steps<N>, R: Wait>(
     rt: &R,
     alloc: Global,
     queue: &TaskQueue<N, T>,
-    share: &mut Share<N, T>,
-) -> Result<(), AllocError>
-    requires pass { IsTaskPass queue.now share.old.pass }
-    requires parts { (knows share.old.pass).parts ≡ 1024 }
-    ensures share { OnOk result ((old : Hand N) → IsShareOf T.number_of T.run_of T.fact queue.now old share.old →
-        IsShareOf T.number_of T.run_of T.fact queue.now old share.new × AreAll T.number_of old.count share.new.parked.items) }
-    ensures still { OnOk result (IsStill T.waits share.old → IsStill T.waits share.new) }
+    pass: &mut TaskPass<N, T>,
+) -> Result<Vec<T>, AllocError>
+    requires { IsTaskPass queue.now pass.old × OwnsAll queue.now pass.old × IsDealt pass.old }
+    ensures all { IfOk result (λ tasks. (h : ℕ → ℕ) → put_by h pass.old ≡ taken_by h pass.old + sum_numbers T.number_of h tasks.items) }
+    ensures tasks { IfOk result (λ tasks. (home : Option N) → KnowsRun home pass.old → AreTasks T.run_of T.fact home tasks.items) }
 {
+    let mut tasks = Vec::new(alloc);
     for _ in rt.forever() {
-        match queue.take(rt, &mut share.pass) {
-            Some(mut task) => {
-                share.moved = has_moved(rt, alloc, &mut task, share.moved)?;
-                share.parked.push(task)?;
-            }
-            None => return Ok(()),
+        match queue.take(rt, pass) {
+            Some(task) => tasks.push(task)?,
+            None => return Ok(tasks),
         }
     }
     unreachable!()
+}
+
+/// These tasks come to the others, and whether any task has moved. As long as none has, each of these is tried.
+fn try_all<N, T: Steps<N>, R: Wait>(
+    rt: &R,
+    alloc: Global,
+    mut rest: Vec<T>,
+    tasks: &mut Vec<T>,
+    mut moved: bool,
+) -> Result<bool, AllocError>
+    requires { (home : Option N) × AreTasks T.run_of T.fact home rest.items }
+    ensures tasks { OnOk result ((home : Option N) → AreTasks T.run_of T.fact home rest.items → AreTasks T.run_of T.fact home tasks.old.items → AreTasks T.run_of T.fact home tasks.new.items) }
+    ensures all { OnOk result ((h : ℕ → ℕ) → sum_numbers T.number_of h tasks.new.items ≡ sum_numbers T.number_of h tasks.old.items + sum_numbers T.number_of h rest.items) }
+    ensures waits { IfOk result (λ now. now ≡ false → (moved ≡ false → AllWait T.waits tasks.old.items) → AllWait T.waits tasks.new.items) }
+{
+    while let Some(mut task) = rest.pop() {
+        moved = has_moved(rt, alloc, &mut task, moved)?;
+        tasks.push(task)?;
+    }
+    Ok(moved)
 }
 
 /// Whether a task has moved: if none has so far, this one is tried.
@@ -143,19 +218,4 @@ fn has_moved<N, T: Steps<N>, R: Wait>(
         return Ok(true);
     }
     Ok(task.make_events(rt, alloc, 1)? > 0)
-}
-
-/// All tasks go back into the queue.
-pub fn put_back<N, T: Steps<N>, R: Wait>(
-    rt: &R,
-    queue: &TaskQueue<N, T>,
-    share: Share<N, T>,
-) -> TaskPass<N, T>
-    requires { IsShareOf T.number_of T.run_of T.fact queue.now (knows share.pass) share }
-    ensures pass { IsTaskPass queue.now result × HoldsNone (knows result) }
-    ensures same { ((knows result).parts ≡ (knows share.pass).parts) × ((knows result).count ≡ (knows share.pass).count) × ((knows result).run ≡ (knows share.pass).run) }
-{
-    let mut share = share;
-    share.unpark(rt, queue);
-    share.pass
 }

@@ -1,33 +1,45 @@
-ghost use Rattle.std.specs.Prelude.{◌≡◌, ◌+◌, [], OnOk};
-ghost use Rattle.task_queue.specs.declared.hand.Hand.{Hand};
-ghost use Rattle.task_queue.specs.Passes.{IsTaskPass, knows};
-ghost use Rattle.task_queue.specs.Round.Shares.{IsShareOf, IsStill};
+ghost use Rattle.std.specs.Prelude.{◌≡◌, ◌≤◌, ◌+◌, ◌||◌, [], ℕ, OnOk, length};
+ghost use Rattle.task_queue.specs.Seats.{AreApart};
+ghost use Rattle.task_queue.specs.Passes.{IsTaskPass, IsDealt, owned, places};
+ghost use Rattle.task_queue.specs.Round.Inner.Shares.{IsShare, IsBalanced, HasRoomFor, TakesIn};
 
 use crate::round::steps::Steps;
 use crate::{TaskPass, TaskQueue};
 use std::alloc::AllocError;
-use std::sync::Wait;
 
-/// What a worker brings back: its pass, the tasks that made no event in their last turn, and whether any task made one.
+/// What a worker has in a round: its pass, the tasks that made no event in their last turn, and whether any task made one.
 #[derive(Drop)]
-pub struct Share<N, T: Steps<N>> {
-    pub pass: TaskPass<N, T>,
-    pub parked: Vec<T>,
-    pub moved: bool,
+pub(crate) struct Share<N: Drop, T: Steps<N>> {
+    pub(crate) pass: TaskPass<N, T>,
+    pub(crate) parked: Vec<T>,
+    pub(crate) moved: bool,
 }
 
-impl<N, T: Steps<N>> Share<N, T> {
-    /// Takes over what another worker brings back.
-    pub(crate) fn absorb(
+impl<N: Drop, T: Steps<N>> Share<N, T> {
+    /// The parked tasks go back into the worker's deque.
+    pub(crate) fn unpark(&mut self, queue: &TaskQueue<N, T>)
+        requires share { IsShare T.number_of T.run_of T.fact queue.now self.old }
+        requires room { HasRoomFor 0 self.old }
+        ensures share { IsShare T.number_of T.run_of T.fact queue.now self.new × IsBalanced T.number_of self.old self.new }
+        ensures room { (n : ℕ) → HasRoomFor n self.old → HasRoomFor n self.new }
+        ensures none { (self.new.parked.items ≡ []) × (self.new.moved ≡ self.old.moved) }
+    {
+        while let Some(task) = self.parked.pop() {
+            queue.put(&mut self.pass, task);
+        }
+    }
+
+    /// What another worker brings back comes to it.
+    pub(crate) fn take_in(
         &mut self,
         queue: &TaskQueue<N, T>,
         other: Share<N, T>,
     ) -> Result<(), AllocError>
-        requires { IsTaskPass queue.now self.old.pass × IsTaskPass queue.now other.pass }
-        ensures pass { OnOk result (IsTaskPass queue.now self.new.pass) }
-        ensures share { OnOk result ((mine theirs : Hand N) → IsShareOf T.number_of T.run_of T.fact queue.now mine self.old → IsShareOf T.number_of T.run_of T.fact queue.now theirs other →
-            theirs.run ≡ mine.run → IsShareOf T.number_of T.run_of T.fact queue.now (record mine { parts = mine.parts + theirs.parts }) self.new) }
-        ensures still { OnOk result (IsStill T.waits self.old → IsStill T.waits other → IsStill T.waits self.new) }
+        requires pass { IsTaskPass queue.now self.old.pass × IsDealt self.old.pass }
+        requires other { IsTaskPass queue.now other.pass × IsDealt other.pass }
+        requires apart { AreApart (owned self.old.pass) (owned other.pass) }
+        requires reserve { length (owned self.old.pass) + length (owned other.pass) ≤ places self.old.pass }
+        ensures { OnOk result (TakesIn queue.now self.old other self.new) }
     {
         let Share {
             pass,
@@ -35,19 +47,16 @@ impl<N, T: Steps<N>> Share<N, T> {
             moved,
         } = other;
         queue.join(&mut self.pass, pass);
-        self.moved = self.moved || moved;
         self.parked.append(&mut parked)?;
+        let moved = either(self.moved, moved);
+        self.moved = moved;
         Ok(())
     }
+}
 
-    /// The parked tasks go back into the queue.
-    pub(crate) fn unpark<R: Wait>(&mut self, rt: &R, queue: &TaskQueue<N, T>)
-        requires { IsShareOf T.number_of T.run_of T.fact queue.now (knows self.old.pass) self.old }
-        ensures share { (old : Hand N) → IsShareOf T.number_of T.run_of T.fact queue.now old self.old → IsShareOf T.number_of T.run_of T.fact queue.now old self.new }
-        ensures none { self.new.parked.items ≡ [] }
-    {
-        while let Some(task) = self.parked.pop() {
-            queue.put(rt, &mut self.pass, task);
-        }
-    }
+/// Whether any of two has moved.
+fn either(first: bool, second: bool) -> bool
+    ensures { result ≡ first || second }
+{
+    first || second
 }

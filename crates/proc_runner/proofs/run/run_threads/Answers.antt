@@ -9,6 +9,7 @@ use Rattle.net_core.proofs.Lemmas.{outcomes_fit}
 use Rattle.proc_runner.specs.Inner.Opened.{AreOpened}
 use Rattle.proc_runner.specs.Inner.Started.{AreLeft}
 use Rattle.proc_runner.proofs.Runs.{run_typed, is_run, heads_are, all_left, procs_count}
+use Rattle.proc_runner.proofs.Tasks.{as_many}
 use Rattle.proc_runner.proofs.run.run_threads.Goals as goal
 
 pub start-requires-clause-typed : goal.start-requires-clause-typed
@@ -48,7 +49,12 @@ pub run_to_end-requires-clause-tasks : goal.run_to_end-requires-clause-tasks
 run_to_end-requires-clause-tasks g c κs within =
     let keep = c.bodies_keep_types.ensures in
     let count = procs_count c.args.net.now c.requires.net (map g.B.Body.behavior c.args.bodies.now) c.requires.bodies keep c.args.inputs.now.words c.requires.inputs c.args.n (omega (arith, c.ranges.n)) c.args.depths.now in
-    (c.in_ok-queue.ensures.2, c.in_ok-queue.ensures.3 ∙ (ap length c.as_slice-3.ensures ∙ sym count), c.in_ok-queue.ensures.4)
+    as_many _ _ _ _ _ _ (ap length c.as_slice-3.ensures ∙ sym count) c.in_ok-tasks.ensures
+
+pub run_to_end-requires-clause-few : goal.run_to_end-requires-clause-few
+run_to_end-requires-clause-few g c κs within =
+    let keep = c.bodies_keep_types.ensures in
+    omega (arith, procs_count c.args.net.now c.requires.net (map g.B.Body.behavior c.args.bodies.now) c.requires.bodies keep c.args.inputs.now.words c.requires.inputs c.args.n (omega (arith, c.ranges.n)) c.args.depths.now, c.requires.net.few_procs)
 
 pub returns-clause-fits : goal.returns-clause-fits
 returns-clause-fits g c =

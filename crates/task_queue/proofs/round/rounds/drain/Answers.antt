@@ -1,24 +1,43 @@
-use Rattle.std.proofs.Common.{refl, ap, sym, ◌∙◌, subst, ℕ, Some}
-use Rattle.task_queue.specs.Tasks.{AreAllBelow}
-use Rattle.task_queue.specs.Passes.{knows}
-use Rattle.task_queue.specs.declared.hand.Hand.{Hand}
-use Rattle.task_queue.proofs.OnRound.Turns.{park, rest, all_parked, still_more}
+use Rattle.std.proofs.Common.{List, refl, ap, ◌∙◌, arith}
+use Rattle.task_queue.specs.Passes.{sum_numbers}
+use Rattle.task_queue.proofs.OnRound.Turns.{tasks_none, tasks_more, numbers_more}
+use Rattle.task_queue.proofs.OnRound.Jobs.{owns_same}
 use Rattle.task_queue.proofs.round.rounds.drain.Goals as goal
 
-pub loop-preserved : goal.loop-preserved
-loop-preserved g c = (
-  c.in-Some-take.ensures.pass,
-  ap (λ (v : Hand _). v.parts) c.in-Some-take.ensures.taken.0 ∙ c.loop.invariant.1,
-  λ old is.
-      park _ _ _ c.args.queue.now old c.loop.share (c.loop.invariant.2 old is) _ c.has_moved.new.task _ c.in-Some-take.ensures.pass
-      c.in-Some-take.ensures.taken.0 c.has_moved.ensures.same.0 (c.in-Some-take.ensures.taken.1 ∙ sym (ap Some c.has_moved.ensures.same.1)) c.has_moved.ensures.fact c.in_ok-push-in-Some-take.ensures.items,
-  λ was. still_more _ c.loop.share.moved _ _ _ c.has_moved.new.task (c.loop.invariant.3 was) c.in_ok-push-in-Some-take.ensures.items c.in_ok-share-in-Some-take.ensures.waits,
-)
-
-pub returns-in-None-take-clause-share : goal.returns-in-None-take-clause-share
-returns-in-None-take-clause-share g c old is =
-    let had = c.loop.invariant.2 old is in
-    let told = c.in-None-take.ensures.taken in (
-      rest _ _ _ c.args.queue.now old c.loop.share had _ c.in-None-take.ensures.pass told.0 refl,
-      all_parked _ _ _ c.args.queue.now old c.loop.share had (subst (λ (n : ℕ). AreAllBelow n (knows c.loop.share.pass).held) had.count (told.1 c.loop.invariant.1)),
+pub loop-init : goal.loop-init
+loop-init g c =
+    let empty = c.new-tasks.ensures.items in (
+      c.requires.0,
+      c.requires.1,
+      c.requires.2,
+      (λ h. (refl, let none = ap (λ (ts : List _). sum_numbers g.T.Numbered.number_of h ts) empty in omega (arith, none))),
+      λ home knows. (knows, tasks_none g.T.Numbered.number_of g.T.Numbered.run_of g.T.Numbered.fact home c.new-tasks.result.items empty),
     )
+
+pub loop-preserved : goal.loop-preserved
+loop-preserved g c =
+    let is = c.loop.invariant in
+    let took = c.in-Some-take.ensures in
+    let pushed = c.in_ok-push-in-Some-take.ensures.items in (
+      took.pass.0,
+      owns_same c.args.queue.now c.loop.pass c.take.new.pass took.pass.1 is.1,
+      took.pass.1.dealt is.2,
+      (λ h. (
+        took.put h ∙ (is.3 h).0,
+        omega (arith, took.taken.0 h, (is.3 h).1, numbers_more g.T.Numbered.number_of g.T.Numbered.run_of g.T.Numbered.fact h c.push.new.self.items c.loop.tasks.items c.in-Some-take.task pushed),
+      )),
+      λ home knows.
+          let was = is.4 home knows in (
+            took.pass.1.run home was.0,
+            tasks_more g.T.Numbered.number_of g.T.Numbered.run_of g.T.Numbered.fact home c.loop.tasks.items c.push.new.self.items c.in-Some-take.task was.1 pushed (took.taken.1 home was.0) took.taken.2,
+          ),
+    )
+
+pub returns-in-None-take-clause-all : goal.returns-in-None-take-clause-all
+returns-in-None-take-clause-all g c h =
+    let is = c.loop.invariant in
+    let none = c.in-None-take.ensures in
+    omega (arith, (is.3 h).0, (is.3 h).1, none.put h, none.taken.0 h, none.all is.1 is.2 h)
+
+pub returns-in-None-take-clause-tasks : goal.returns-in-None-take-clause-tasks
+returns-in-None-take-clause-tasks g c home knows = (c.loop.invariant.4 home knows).1

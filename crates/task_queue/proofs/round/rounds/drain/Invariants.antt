@@ -1,12 +1,12 @@
-use Rattle.std.proofs.Common.{◌≡◌}
-use Rattle.task_queue.specs.declared.hand.Hand.{Hand}
-use Rattle.task_queue.specs.Passes.{IsTaskPass, knows}
-use Rattle.task_queue.specs.Round.Shares.{IsShareOf, IsStill}
+use Rattle.std.proofs.Common.{◌≡◌, ◌+◌, ℕ}
+use Rattle.std.specs.Prelude.{Option}
+use Rattle.task_queue.specs.Passes.{IsTaskPass, OwnsAll, IsDealt, KnowsRun, AreTasks, put_by, taken_by, sum_numbers}
 use Rattle.task_queue.proofs.round.rounds.drain.Given as goal
 
 abbrev pub invariant-loop : goal.invariant-loop
 invariant-loop g l =
-    IsTaskPass l.queue l.share.pass
-    × ((knows l.share.pass).parts ≡ 1024)
-    × ((old : Hand _) → IsShareOf g.T.Numbered.number_of g.T.Numbered.run_of g.T.Numbered.fact l.queue old l.fn.share → IsShareOf g.T.Numbered.number_of g.T.Numbered.run_of g.T.Numbered.fact l.queue old l.share)
-    × (IsStill g.T.Steps.waits l.fn.share → IsStill g.T.Steps.waits l.share)
+    IsTaskPass l.queue l.pass
+    × OwnsAll l.queue l.pass
+    × IsDealt l.pass
+    × ((h : ℕ → ℕ) → (put_by h l.pass ≡ put_by h l.fn.pass) × (taken_by h l.pass ≡ taken_by h l.fn.pass + sum_numbers g.T.Numbered.number_of h l.tasks.items))
+    × ((home : Option _) → KnowsRun home l.fn.pass → KnowsRun home l.pass × AreTasks g.T.Numbered.run_of g.T.Numbered.fact home l.tasks.items)

@@ -1,35 +1,46 @@
-use Rattle.std.proofs.Common.{rules, ◌≡◌, ◌+◌, ◌-◌, ℕ, length, ap, ◌∙◌, subst, arith, [], ◌∷◌, refl}
-use Rattle.std.proofs.lemmas.List.{length-append}
-use Rattle.task_queue.specs.Tasks.{giving}
-use Rattle.task_queue.specs.Passes.{knows}
-use Rattle.task_queue.specs.Round.Shares.{IsShareOf}
-use Rattle.task_queue.proofs.OnRound.Turns.{last_share, fewer_shares}
+use Rattle.std.proofs.Common.{◌≡◌, [], ◌∷◌, ◌++◌, ap, ◌∙◌, rules}
+use Rattle.task_queue.proofs.OnRound.Jobs.{gathers_first, may_take_in, gathers_more, gathers_all}
 use Rattle.task_queue.proofs.round.rounds.gather.Goals as goal
 
-pub absorb-requires : goal.absorb-requires
-absorb-requires g c =
-    (c.loop-other.invariant.0, (last_share _ _ _ _ c.args.queue.now _ c.loop-other.shares.items c.pop.new.self.items c.in-Some.other c.in_ok-other.field-0 c.loop-other.invariant.1 c.in-Some.ensures.items c.in_ok-other.was).0.pass)
+pub loop-next-init : goal.loop-next-init
+loop-next-init g c home jobs workers can =
+    gathers_first g.T.Numbered.number_of g.T.Numbered.run_of g.T.Numbered.fact g.T.Steps.waits c.args.queue.now home workers jobs c.args.shares.items can c.pop.new.self.items c.in_ok-all.all
+    (c.in-Some.ensures.items ∙ ap (λ s. c.pop.new.self.items ++ s ∷ []) c.in_ok-all.was)
 
-pub loop-other-preserved : goal.loop-other-preserved
-loop-other-preserved g c =
-    let v = knows c.args.share.now.pass in
-    let theirs = last_share _ _ _ _ c.args.queue.now (giving v) c.loop-other.shares.items c.pop.new.self.items c.in-Some.other c.in_ok-other.field-0 c.loop-other.invariant.1 c.in-Some.ensures.items c.in_ok-other.was in
-    let fewer = ap length c.in-Some.ensures.items ∙ length-append c.pop.new.self.items (c.in-Some.other ∷ []) in
-    let most = c.loop-other.invariant.2 in (
-      c.in_ok-absorb.ensures.pass,
-      fewer_shares _ _ _ _ c.args.queue.now (giving v) c.loop-other.shares.items c.pop.new.self.items c.in-Some.other c.loop-other.invariant.1 c.in-Some.ensures.items,
-      omega (arith, fewer, most),
-      λ is.
-          let mine = c.loop-other.invariant.3 is in
-          let parts : (v.parts + (length c.args.shares.items - length c.loop-other.shares.items)) + 1 ≡ v.parts + (length c.args.shares.items - length c.pop.new.self.items) = omega (arith, fewer, most) in
-          subst (λ (n : ℕ). IsShareOf g.T.Numbered.number_of g.T.Numbered.run_of g.T.Numbered.fact c.args.queue.now (record v { parts = n }) c.absorb.new.self) parts
-          (c.in_ok-absorb.ensures.share (record v { parts = v.parts + (length c.args.shares.items - length c.loop-other.shares.items) }) (giving v) mine theirs.0 refl),
-      λ was. c.in_ok-absorb.ensures.still (c.loop-other.invariant.4 was) theirs.1,
-    )
+pub take_in-requires-clause-pass : goal.take_in-requires-clause-pass
+take_in-requires-clause-pass g c =
+    let can = c.requires in
+    let got = (c.loop-next.invariant can.0 can.1 can.2 can.3).got in
+    (got.is, got.dealt)
 
-pub returns-clause-share : goal.returns-clause-share
-returns-clause-share g c is =
-    let v = knows c.args.share.now.pass in
-    let empty : length c.loop-other.shares.items ≡ 0 = search rules in
-    let parts : v.parts + (length c.args.shares.items - length c.loop-other.shares.items) ≡ v.parts + length c.args.shares.items = omega (arith, empty) in
-    subst (λ (n : ℕ). IsShareOf g.T.Numbered.number_of g.T.Numbered.run_of g.T.Numbered.fact c.args.queue.now (record v { parts = n }) c.loop-other.share) parts (c.loop-other.invariant.3 is)
+pub take_in-requires-clause-other : goal.take_in-requires-clause-other
+take_in-requires-clause-other g c =
+    let can = c.requires in
+    let split = c.in-Some-pop.ensures.items ∙ ap (λ s. c.pop-in-loop-next.new.self.items ++ s ∷ []) c.in_ok-share.was in
+    (may_take_in g.T.Numbered.number_of g.T.Numbered.run_of g.T.Numbered.fact g.T.Steps.waits c.args.queue.now can.0 can.2 can.1 c.args.shares.items can.3 c.loop-next.shares.items c.pop-in-loop-next.new.self.items c.loop-next.all c.in_ok-share.share
+    (c.loop-next.invariant can.0 can.1 can.2 can.3) split).0
+
+pub take_in-requires-clause-apart : goal.take_in-requires-clause-apart
+take_in-requires-clause-apart g c =
+    let can = c.requires in
+    let split = c.in-Some-pop.ensures.items ∙ ap (λ s. c.pop-in-loop-next.new.self.items ++ s ∷ []) c.in_ok-share.was in
+    (may_take_in g.T.Numbered.number_of g.T.Numbered.run_of g.T.Numbered.fact g.T.Steps.waits c.args.queue.now can.0 can.2 can.1 c.args.shares.items can.3 c.loop-next.shares.items c.pop-in-loop-next.new.self.items c.loop-next.all c.in_ok-share.share
+    (c.loop-next.invariant can.0 can.1 can.2 can.3) split).1
+
+pub take_in-requires-clause-reserve : goal.take_in-requires-clause-reserve
+take_in-requires-clause-reserve g c =
+    let can = c.requires in
+    let split = c.in-Some-pop.ensures.items ∙ ap (λ s. c.pop-in-loop-next.new.self.items ++ s ∷ []) c.in_ok-share.was in
+    (may_take_in g.T.Numbered.number_of g.T.Numbered.run_of g.T.Numbered.fact g.T.Steps.waits c.args.queue.now can.0 can.2 can.1 c.args.shares.items can.3 c.loop-next.shares.items c.pop-in-loop-next.new.self.items c.loop-next.all c.in_ok-share.share
+    (c.loop-next.invariant can.0 can.1 can.2 can.3) split).2
+
+pub loop-next-preserved : goal.loop-next-preserved
+loop-next-preserved g c home jobs workers can =
+    let split = c.in-Some-pop.ensures.items ∙ ap (λ s. c.pop-in-loop-next.new.self.items ++ s ∷ []) c.in_ok-share.was in
+    gathers_more g.T.Numbered.number_of g.T.Numbered.run_of g.T.Numbered.fact g.T.Steps.waits c.args.queue.now home workers jobs c.args.shares.items can c.loop-next.shares.items c.pop-in-loop-next.new.self.items c.loop-next.all c.in_ok-share.share
+    (c.loop-next.invariant home jobs workers can) split c.take_in.new.self c.in_ok-take_in.ensures
+
+pub returns : goal.returns
+returns g c home jobs workers can =
+    let empty : c.loop-next.shares.items ≡ [] = search rules in
+    gathers_all g.T.Numbered.number_of g.T.Numbered.run_of g.T.Numbered.fact g.T.Steps.waits c.args.queue.now home workers jobs c.args.shares.items can c.loop-next.shares.items c.loop-next.all (c.loop-next.invariant home jobs workers can) empty
