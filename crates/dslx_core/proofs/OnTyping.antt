@@ -18,6 +18,8 @@ pub mod OnLaws
 pub mod OnDenotation
 -- procs
 pub mod OnProcs
+-- what has a size reaches what it mentions
+pub mod OnSized
 -- expressions
 pub mod OnSound
 -- what has a type has a value of it

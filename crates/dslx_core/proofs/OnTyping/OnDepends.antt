@@ -20,5 +20,9 @@ pub mod OfItems
 pub mod Stages
 -- ranks of items
 pub mod Ranks
+-- what functions declare
+pub mod Declared
 -- levels, by ranks
 pub mod Levels
+-- what is seen of the own group
+pub mod Groups

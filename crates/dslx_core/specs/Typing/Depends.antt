@@ -2,3 +2,5 @@
 pub mod Alike
 -- texts whose global environments settle
 pub mod Settled
+-- what is seen of the own group
+pub mod Groups

@@ -4,3 +4,7 @@ pub mod Reached
 pub mod Closed
 -- mentions that rule 3 lets pass
 pub mod Cycles
+-- functions that are mentioned
+pub mod Called
+-- instances of which all parts are there
+pub mod Whole

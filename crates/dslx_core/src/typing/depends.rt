@@ -4,4 +4,6 @@
 //! So global environments by chains of items settle: longer chains than the text has items add nothing.
 mod depends;
 
-pub use depends::{a_judgement_depends_on_what_is_mentioned, what_is_known_settles};
+pub use depends::{
+    a_group_sees_types_alone, a_judgement_depends_on_what_is_mentioned, what_is_known_settles,
+};

@@ -1,6 +1,5 @@
 -- The `config` of an instance of a proc that is checked becomes channels, children and members.
 use Rattle.std.proofs.Common.{◌≡◌, ◌++◌, ◌==◌, ℕ, length, Bool, true, false, List, [], ◌∷◌, map, Option, Some, None, refl, ap, ◌∙◌}
-use Rattle.std.specs.Prelude.{flat_map}
 use Rattle.std.specs.List.{list_all}
 use Rattle.dslx_tree.specs.declared.expr.Arg.{Arg}
 use Rattle.dslx_tree.specs.declared.item.Module.{Module}
@@ -18,16 +17,15 @@ use Rattle.dslx_meaning.specs.declared.value.UntypedLiteral.{UntypedLiteral}
 use Rattle.dslx_meaning.specs.Rules.CallRules.{given_judgements, given_parametric_args}
 use Rattle.dslx_meaning.specs.Rules.ConstantRules.{ConstantSeen, untyped_typing, constant_of, constant_or_untyped}
 use Rattle.dslx_meaning.specs.Rules.TypeEnvs.{ExprPair, Instance, GlobalEnv, TypeEnv, alone, untyped_of, faults_of_all, span_of, within}
-use Rattle.dslx_meaning.specs.Rules.Mentions.{arg_if, config_statement_mentions, mentioned_in_type, parametric_names}
+use Rattle.dslx_meaning.specs.Rules.Mentions.{arg_if, mentioned_in_type, parametric_names}
 use Rattle.dslx_meaning.specs.Rules.ModuleRules.{is_reached}
 use Rattle.dslx_meaning.specs.Rules.NodeRules.{arg_pair}
 use Rattle.dslx_meaning.specs.Rules.ProcRules.{Made, behind_ends, channel_found, channel_type, depth_found, ends_found, made_at_end, made_at_start, made_with, config_statements_found, proc_type_env, spawn_found, spawn_of, unknown_ends, use_faults}
-use Rattle.dslx_core.specs.Typing.TypingRelations.Closed.{ends_within}
 use Rattle.dslx_core.specs.Typing.TypingRelations.Reached.{AllNamed, MentionsReach}
 use Rattle.dslx_core.proofs.Lemmas.Typing.TypingRelations.{argument_reaches, join, unmarked, written_type_reaches}
 use Rattle.dslx_core.specs.declared.design.Child.{Child}
 use Rattle.dslx_core.specs.declared.design.MadeChannel.{MadeChannel}
-use Rattle.dslx_core.proofs.Lemmas.Typing.Depends.{NoProcs, den_parts, no_proc_in_arg, no_proc_in_type}
+use Rattle.dslx_core.proofs.Lemmas.Typing.Depends.{NoProcs, no_proc_in_arg, no_proc_in_type}
 use Rattle.dslx_core.proofs.Lemmas.Typing.Sound.{all_in, none_in}
 use Rattle.dslx_core.specs.Typing.Typed.Complete.{IsComplete}
 use Rattle.dslx_core.specs.Typing.Typed.WellTyped.{IsWellTypedEnv}
@@ -39,7 +37,7 @@ use Rattle.dslx_core.specs.Networks.Configs.{ProcInstance, lower_channel, lower_
 use Rattle.dslx_core.specs.Networks.Ends.{end_numbers, numbered_ends}
 use Rattle.dslx_total.specs.Families.Plain.{ProcsBindNoConstant}
 use Rattle.dslx_total.proofs.OnFamilies.Acts.{parts_well_typed}
-use Rattle.dslx_total.proofs.OnFamilies.Reached.{K, Listed, Passing, Within, all, all_sound, most, proc_there, reaching}
+use Rattle.dslx_total.proofs.OnFamilies.Reached.{K, Listed, Passing, all, all_sound, reaching}
 use Rattle.dslx_total.proofs.OnFamilies.Spawns.{proc_named, spawn_there, well_behind}
 use Rattle.dslx_total.proofs.OnFamilies.There.{IsThere, well}
 use Rattle.dslx_total.specs.Configs.LowersTotally.{ConfigLowers}
@@ -126,46 +124,43 @@ module _ (m : Module) (top : Option (List ℕ)) (s : IsAccepted m top) (procs : 
       children : (instances : List ProcInstance) → EachSpawn (HasItsInstance m known.items scope instances) ms → (cs : List Child) × (lower_children m scope held instances ms ≡ Some cs)
 
     -- a channel reaches sound instances
-    channel_sound : (made : Made) (c : Channel) → Within m (most m top s) (config_statement_mentions (config_statement.Channel c) bound) → Listed m top s (channel_found context made c).reached → list_all known.is_sound (channel_found context made c).reached ≡ true
-    channel_sound made c w r =
+    channel_sound : (made : Made) (c : Channel) → Listed m top s (channel_found context made c).reached → list_all known.is_sound (channel_found context made c).reached ≡ true
+    channel_sound made c r =
         let behind = behind_ends context made in
         let word = channel_type behind c.word in
         let depth = depth_found behind c.depth in
-        let q = den_parts (ends_within m (most m top s)) m (mentioned_in_type c.word bound) (arg_if c.depth bound) w in
         let P = Passing m top s in
         all_sound m top s (word.reached ++ depth.reached)
         (join P word.reached depth.reached
-        (written_type_reaches P c.word bound behind (reaching m top s behind.owner (mentioned_in_type c.word bound) (no_proc_in_type c.word bound) q.0))
-        (depth_reaches P behind c.depth bound (reaching m top s behind.owner (arg_if c.depth bound) (depth_none c.depth bound) q.1))) r
+        (written_type_reaches P c.word bound behind (reaching m top s behind.owner (mentioned_in_type c.word bound) (no_proc_in_type c.word bound)))
+        (depth_reaches P behind c.depth bound (reaching m top s behind.owner (arg_if c.depth bound) (depth_none c.depth bound)))) r
 
-    config_statements_become : (made : Made) (ms : List ConfigStatement) → AreNumbered held (made_at_end context made ms).names → Within m (most m top s) (flat_map (λ (x : ConfigStatement). config_statement_mentions x bound) ms) → (config_statements_found context made ms).faults ≡ []
+    config_statements_become : (made : Made) (ms : List ConfigStatement) → AreNumbered held (made_at_end context made ms).names → (config_statements_found context made ms).faults ≡ []
         → Listed m top s (config_statements_found context made ms).reached → StatementsLower ms
-    config_statements_become made [] named w f r = record { made = []; made_is = refl; spawns = tt; children = λ instances k. ([], refl) }
-    config_statements_become made (config_statement.Channel c ∷ ms) named w f r =
+    config_statements_become made [] named f r = record { made = []; made_is = refl; spawns = tt; children = λ instances k. ([], refl) }
+    config_statements_become made (config_statement.Channel c ∷ ms) named f r =
         let next = made_with context made c in
-        let v = den_parts (ends_within m (most m top s)) m (config_statement_mentions (config_statement.Channel c) bound) (flat_map (λ (x : ConfigStatement). config_statement_mentions x bound) ms) w in
         let a = none_in (channel_found context made c).faults (config_statements_found context next ms).faults f in
         let b = all_in test (channel_found context made c).reached (config_statements_found context next ms).reached r in
-        let first = channel_there known p parametric_args made (well_behind context env made sees) written c a.0 (channel_sound made c v.0 b.0) in
-        let rest = config_statements_become next ms named v.1 a.1 b.1 in
+        let first = channel_there known p parametric_args made (well_behind context env made sees) written c a.0 (channel_sound made c b.0) in
+        let rest = config_statements_become next ms named a.1 b.1 in
         record {
           made = first.0 ∷ rest.made;
           made_is = put_both (lower_channel scope c) (lower_made scope ms) first.0 rest.made first.1 rest.made_is;
           spawns = rest.spawns;
           children = rest.children;
         }
-    config_statements_become made (config_statement.Spawn sp ∷ ms) named w f r =
-        let v = den_parts (ends_within m (most m top s)) m (config_statement_mentions (config_statement.Spawn sp) bound) (flat_map (λ (x : ConfigStatement). config_statement_mentions x bound) ms) w in
+    config_statements_become made (config_statement.Spawn sp ∷ ms) named f r =
         let a = none_in (spawn_found context made sp).faults (config_statements_found context made ms).faults f in
         let b = all_in test (spawn_found context made sp).reached (config_statements_found context made ms).reached r in
         let given = given_parametric_args (behind_ends context made) (map arg_pair sp.arguments) in
         let unknown = unknown_ends made.names sp.ends in
         let spawned = spawn_of context made sp given (as_proc (item_named sp.target.name known.whole.items)) in
         let declared = (none_in unknown spawned.faults (none_in (faults_of_all (given_judgements given)) (unknown ++ spawned.faults) a.0).1).0 in
-        let t = spawn_there m top s procs complete typed p parametric_args sees made sp bound v.0 a.0 b.0 in
+        let t = spawn_there m top s procs complete typed p parametric_args sees made sp bound a.0 b.0 in
         let gives = given_there known p parametric_args none_made sees t.target sp.arguments ∙ t.given in
         let ends = parametric_args_there held made.names (λ name q. named name (stays name context made ms q)) sp.ends declared in
-        let rest = config_statements_become made ms named v.1 a.1 b.1 in
+        let rest = config_statements_become made ms named a.1 b.1 in
         record {
           made = rest.made;
           made_is = rest.made_is;
@@ -198,7 +193,7 @@ module _ (m : Module) (top : Option (List ℕ)) (s : IsAccepted m top) (procs : 
         let a = none_in made.faults (unknown ++ used) (none_in outer.faults (made.faults ++ (unknown ++ used)) parts.config).1 in
         let b = (all_in test made.reached [] (all_in test outer.reached (made.reached ++ []) parts.listed).1).0 in
         let named = declared_numbered context p in
-        let become = config_statements_become start p.config.config_statements named (proc_there m top s p there.checked.named).config_statements a.0 b in
+        let become = config_statements_become start p.config.config_statements named a.0 b in
         let members = parametric_args_there held end.names named p.config.result (none_in unknown used a.1).0 in
         record {
           spawns = become.spawns;

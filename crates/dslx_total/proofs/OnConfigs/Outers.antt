@@ -27,7 +27,7 @@ use Rattle.dslx_core.specs.Networks.Configs.{config_scope}
 use Rattle.dslx_core.specs.Networks.Assembly.{lower_outer}
 use Rattle.dslx_total.specs.Families.Plain.{ProcsBindNoConstant}
 use Rattle.dslx_total.proofs.OnFamilies.Acts.{parts_well_typed}
-use Rattle.dslx_total.proofs.OnFamilies.Reached.{K, Passing, all, all_sound, ends_none, proc_there, reaching}
+use Rattle.dslx_total.proofs.OnFamilies.Reached.{K, Passing, all, all_sound, ends_none, reaching}
 use Rattle.dslx_total.proofs.OnFamilies.There.{IsThere, well}
 use Rattle.dslx_total.proofs.OnFamilies.Tops.{top_there}
 use Rattle.dslx_total.specs.Configs.LowersTotally.{TopLowers}
@@ -70,7 +70,7 @@ module _ (m : Module) (top : Option (List ℕ)) (s : IsAccepted m top) (procs : 
       let f = (none_in outer.faults (made.faults ++ (unknown_ends end.names p.config.result ++ use_faults context p end)) parts.config).0 in
       let r = (all_in test outer.reached (made.reached ++ []) parts.listed).0 in
       let bound = parametric_names p.parametrics in
-      let named = found_ends (Passing m top s) context [] p.config.ends bound (reaching m top s context.owner (ends_mentions p.config.ends bound) (ends_none p.config.ends bound) (proc_there m top s p t.named).ends) in
+      let named = found_ends (Passing m top s) context [] p.config.ends bound (reaching m top s context.owner (ends_mentions p.config.ends bound) (ends_none p.config.ends bound)) in
       let os = each_outer written known p parametric_args (well m top s complete typed p parametric_args there) [] p.config.ends f (all_sound m top s outer.reached named r) in
       record {
         checked = record { named = t.named; checked = t.among; own = t.own };

@@ -6,7 +6,6 @@ use Rattle.dslx_meaning.specs.Environment.{Meanings}
 use Rattle.dslx_meaning.specs.declared.value.DslxValue.{DslxValue}
 use Rattle.dslx_meaning.specs.Rules.TypeEnvs.{Instance}
 use Rattle.dslx_meaning.specs.Rules.ModuleRules.{faults_of, instances_of, is_reached, globals_of, outside_instances}
-use Rattle.dslx_core.specs.Typing.Laws.Recursion.{HasNoCycle}
 use Rattle.dslx_core.specs.Typing.TypingRelations.Closed.{IsOneOf, ReachOneAnother}
 use Rattle.dslx_core.specs.Typing.Depends.Settled.{BindsNoConstant}
 use Rattle.dslx_core.specs.Typing.Typed.Numbers.{AllOwn}
@@ -16,9 +15,9 @@ use Rattle.dslx_total.proofs.OnFamilies.There.{IsThere}
 use Rattle.dslx_total.specs.Configs.ReachedProcs.{IsReachedProc}
 
 -- a text without faults, by what is known of all texts
-pub accepted : (m : Module) (top : Option (List ℕ)) → HasNoCycle m → BindsNoConstant m → faults_of m top ≡ [] → ReachOneAnother (globals_of m) (instances_of m top)
+pub accepted : (m : Module) (top : Option (List ℕ)) → BindsNoConstant m → faults_of m top ≡ [] → ReachOneAnother (globals_of m) (instances_of m top)
     → ((i : Instance) → IsOneOf i (outside_instances m top).reached → is_reached i (instances_of m top) ≡ true) → IsAccepted m top
-accepted m top free plain faults among outside = record { free = free; plain = plain; faults = faults; among = among; outside = outside }
+accepted m top plain faults among outside = record { plain = plain; faults = faults; among = among; outside = outside }
 
 pub is_there : (m : Module) (top : Option (List ℕ)) (s : IsAccepted m top) (items : Meanings) → (K m top s).items ≡ items → (p : Proc) (parametric_args : List DslxValue) → IsReachedProc m items top p parametric_args → IsThere m top s p parametric_args
 is_there m top s items denotation p parametric_args h = record {

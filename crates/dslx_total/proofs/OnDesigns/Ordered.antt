@@ -51,7 +51,7 @@ proc_there (Some (d.Enum x)) h = absurd (true≢false (sym h))
 proc_there None h = absurd (true≢false (sym h))
 
 -- a proc that is mentioned has shorter chains
-mentioned_proc : (m : Module) (k : ℕ) (name : List ℕ) (p : Proc) → item_named name m.items ≡ Some (d.Proc p) → Within m k (mention AsProc name) → ends_within m k name ≡ true
+mentioned_proc : (m : Module) (k : ℕ) (name : List ℕ) (p : Proc) → item_named name m.items ≡ Some (d.Proc p) → Within (ends_within m k) m (mention AsProc name) → ends_within m k name ≡ true
 mentioned_proc m k name p e h =
     (and_true (ends_within m k name) true ((λ t. list_all (ends_within m k) (if is_of_use AsProc (sym e t) then name ∷ [] else [])) ∙ h)).0
 
@@ -86,7 +86,7 @@ module _ (m : Module) (top : Option (List ℕ)) (functions : List CoreInstance) 
   -- ---- one instance
 
   -- the instance that a spawn comes to
-  spawned_there : (k : ℕ) (table : List ProcInstance) → HoldsShorter k table → (scope : CoreScope) (s : Spawn) → Within m k (mention AsProc s.target.name) → SpawnsReached m items top scope s → HasItsInstance m items scope table s
+  spawned_there : (k : ℕ) (table : List ProcInstance) → HoldsShorter k table → (scope : CoreScope) (s : Spawn) → Within (ends_within m k) m (mention AsProc s.target.name) → SpawnsReached m items top scope s → HasItsInstance m items scope table s
   spawned_there k table holds scope s w h target parametric_args is given own =
       let named : item_named s.target.name m.items ≡ Some (d.Proc h.target) = proc_is (item_named s.target.name m.items) h.target h.is in
       let name : h.target.name.name ≡ s.target.name = item_so_named m.items s.target.name (d.Proc h.target) named in
@@ -97,7 +97,7 @@ module _ (m : Module) (top : Option (List ℕ)) (functions : List CoreInstance) 
       let there = holds i among (λ t. is_of_use AsProc (named t) && all_own_pass items.type_named h.parametric_args h.checked.own t) (mentioned_proc m k s.target.name h.target named w) in
       found_in s.target.name parametric_args 0 table (subst (λ (vs : List DslxValue). stands table s.target.name vs ≡ true) same there)
 
-  each_there : (k : ℕ) (table : List ProcInstance) → HoldsShorter k table → (scope : CoreScope) (bound : List (List ℕ)) (ms : List ConfigStatement) → Within m k (flat_map (λ (x : ConfigStatement). config_statement_mentions x bound) ms) → EachSpawn (SpawnsReached m items top scope) ms
+  each_there : (k : ℕ) (table : List ProcInstance) → HoldsShorter k table → (scope : CoreScope) (bound : List (List ℕ)) (ms : List ConfigStatement) → Within (ends_within m k) m (flat_map (λ (x : ConfigStatement). config_statement_mentions x bound) ms) → EachSpawn (SpawnsReached m items top scope) ms
       → EachSpawn (HasItsInstance m items scope table) ms
   each_there k table holds scope bound [] w h = tt
   each_there k table holds scope bound (config_statement.Channel c ∷ ms) w h =
@@ -112,7 +112,7 @@ module _ (m : Module) (top : Option (List ℕ)) (functions : List CoreInstance) 
   pub checked_next : (k : ℕ) (table : List ProcInstance) → HoldsShorter k table → (p : Proc) (parametric_args : List DslxValue) → IsReachedProc m items top p parametric_args → ends_within m (suc k) p.name.name ≡ true
       → IsNext m functions table (record { name = p.name.name; parametric_args = parametric_args })
   checked_next k table holds p parametric_args checked e =
-      let within = proc_within m k p ((λ t. list_all (ends_within m k) (mentions_of m (sym checked.named t))) ∙ e) in
+      let within = proc_within (ends_within m k) m p ((λ t. list_all (ends_within m k) (mentions_of m (sym checked.named t))) ∙ e) in
       let c = configs p parametric_args checked in
       let config = c.becomes table (each_there k table holds (config_scope items p parametric_args) (parametric_names p.parametrics) p.config.config_statements within.config_statements c.spawns) in
       lowers_to_next m functions table (record { name = p.name.name; parametric_args = parametric_args }) p (ap as_proc checked.named) (nexts p parametric_args checked) config.0 config.1

@@ -23,7 +23,7 @@ use Rattle.dslx_core.proofs.Lemmas.Typing.Depends.{no_proc_in_block, no_proc_in_
 use Rattle.dslx_core.specs.Typing.Complete.HasValue.{IsWellTypedFound}
 use Rattle.dslx_core.specs.Typing.Complete.Acts.{acts_found}
 use Rattle.dslx_core.proofs.Lemmas.Typing.Accepted.{IsAccepted, all_empty, instance_faults}
-use Rattle.dslx_total.proofs.OnFamilies.Reached.{IsProcOf, K, Listed, Passing, all, all_listed, all_sound, ends_none, proc_there, reaching}
+use Rattle.dslx_total.proofs.OnFamilies.Reached.{IsProcOf, K, Listed, Passing, all, all_listed, all_sound, ends_none, reaching}
 
 -- two lists that pass a test pass it in one
 both_pass : (f : Instance → Bool) (xs ys : List Instance) → list_all f xs ≡ true → list_all f ys ≡ true → list_all f (xs ++ ys) ≡ true
@@ -154,17 +154,16 @@ module _ (m : Module) (top : Option (List ℕ)) (s : IsAccepted m top) where
       named : AllNamed (Passing m top s) acts.reached
       named =
           let P = Passing m top s in
-          let within = proc_there m top s p h.named in
           let parametric_args_bound = parametric_names p.parametrics in
           let later = p.next.state.name ∷ parametric_args_bound in
           join P parametrics.reached (members.reached ++ (init.reached ++ (state.reached ++ (next.reached ++ []))))
-          (found_parametrics P known p.name.name [] [] p.parametrics parametric_args [] (reaching m top s p.name.name (parametrics_mentions p.parametrics []) (parametrics_none p.parametrics []) within.parametrics))
+          (found_parametrics P known p.name.name [] [] p.parametrics parametric_args [] (reaching m top s p.name.name (parametrics_mentions p.parametrics []) (parametrics_none p.parametrics [])))
           (join P members.reached (init.reached ++ (state.reached ++ (next.reached ++ [])))
-          (found_ends P context [] p.members parametric_args_bound (reaching m top s p.name.name (ends_mentions p.members parametric_args_bound) (ends_none p.members parametric_args_bound) within.members))
+          (found_ends P context [] p.members parametric_args_bound (reaching m top s p.name.name (ends_mentions p.members parametric_args_bound) (ends_none p.members parametric_args_bound)))
           (join P init.reached (state.reached ++ (next.reached ++ []))
-          (block_of_text_reaches P p.init parametric_args_bound false inside (reaching m top s p.name.name (mentioned_in_block p.init parametric_args_bound) (no_proc_in_block p.init parametric_args_bound) within.init))
+          (block_of_text_reaches P p.init parametric_args_bound false inside (reaching m top s p.name.name (mentioned_in_block p.init parametric_args_bound) (no_proc_in_block p.init parametric_args_bound)))
           (join P state.reached (next.reached ++ [])
-          (written_type_reaches P p.next.ty parametric_args_bound context (reaching m top s p.name.name (mentioned_in_type p.next.ty parametric_args_bound) (no_proc_in_type p.next.ty parametric_args_bound) within.state))
+          (written_type_reaches P p.next.ty parametric_args_bound context (reaching m top s p.name.name (mentioned_in_type p.next.ty parametric_args_bound) (no_proc_in_type p.next.ty parametric_args_bound)))
           (join P next.reached []
-          (block_of_text_reaches P p.next.body later true last (reaching m top s p.name.name (mentioned_in_block p.next.body later) (no_proc_in_block p.next.body later) within.next))
+          (block_of_text_reaches P p.next.body later true last (reaching m top s p.name.name (mentioned_in_block p.next.body later) (no_proc_in_block p.next.body later)))
           tt))))

@@ -1,7 +1,6 @@
 -- How many procs and channels a family has: as many as are counted of its first proc's instance.
 use Rattle.std.proofs.Common.{◌≡◌, inl, inr, ◌+◌, ◌++◌, ℕ, zero, suc, length, Bool, true, false, if◌then◌else◌, List, [], ◌∷◌, map, Option, Some, refl, sym, ap, ◌∙◌, arith}
 use mathlib.Core.Bool.{true≢false}
-use Rattle.std.specs.Prelude.{flat_map}
 use Rattle.std.proofs.lemmas.List.{length-append}
 use Rattle.dslx_tree.specs.declared.item.Module.{Module}
 use Rattle.dslx_tree.specs.declared.process.ConfigStatement.{ConfigStatement}
@@ -14,21 +13,20 @@ use Rattle.dslx_meaning.specs.Lists.{and_then}
 use Rattle.dslx_meaning.specs.Network.{Family, Held, Elaboration, as_proc, channels_of_ends, child_path, children, handed_over, made_chans, made_ends, elaborate_within, spawn_parametric_args, spawned, spawned_at}
 use Rattle.dslx_meaning.specs.declared.value.DslxValue.{DslxValue}
 use Rattle.dslx_meaning.specs.Rules.TypeEnvs.{Instance, GlobalEnv, TypeEnv, same_instance}
-use Rattle.dslx_meaning.specs.Rules.Mentions.{config_statement_mentions, parametric_names}
+use Rattle.dslx_meaning.specs.Rules.Mentions.{parametric_names}
 use Rattle.dslx_meaning.specs.Rules.ModuleRules.{is_reached}
 use Rattle.dslx_meaning.specs.Rules.NetworkLimits.{Count, Counted, and_count, count_in, count_of_parametric_args, count_of_proc, counted_within, instance_count, config_statements_count, proc_count, spawn_count}
 use Rattle.dslx_meaning.specs.Rules.ProcRules.{Made, channel_found, ends_found, made_at_start, made_with, config_statements_found, proc_type_env, spawn_found}
-use Rattle.dslx_core.specs.Typing.TypingRelations.Closed.{IsOneOf, ends_within}
+use Rattle.dslx_core.specs.Typing.TypingRelations.Closed.{IsOneOf}
 use Rattle.dslx_core.proofs.Lemmas.Typing.TypingRelations.{itself}
 use Rattle.dslx_core.proofs.Lemmas.Typing.Sound.{all_in, none_in}
-use Rattle.dslx_core.proofs.Lemmas.Typing.Depends.{den_parts}
 use Rattle.dslx_core.specs.Typing.Typed.Complete.{IsComplete}
 use Rattle.dslx_core.specs.Typing.Complete.HasValue.{AreTyped}
 use Rattle.dslx_core.proofs.Lemmas.Typing.Complete.{item_env}
 use Rattle.dslx_core.proofs.Lemmas.Typing.Accepted.{IsAccepted, one_instance, one_of_these}
 use Rattle.dslx_total.specs.Families.Plain.{ProcsBindNoConstant}
 use Rattle.dslx_total.proofs.OnFamilies.Acts.{parts_well_typed}
-use Rattle.dslx_total.proofs.OnFamilies.Reached.{K, Listed, Within, all, most, proc_there}
+use Rattle.dslx_total.proofs.OnFamilies.Reached.{K, Listed, all}
 use Rattle.dslx_total.proofs.OnFamilies.Spawns.{proc_named, spawn_there}
 use Rattle.dslx_total.proofs.OnFamilies.There.{IsThere, well}
 
@@ -76,10 +74,10 @@ module _ (m : Module) (top : Option (List ℕ)) (s : IsAccepted m top) (procs : 
     abbrev bound : List (List ℕ)
     bound = parametric_names p.parametrics
 
-    one_counted : (own : List ℕ) (made : Made) (sp : Spawn) (number : ℕ) → Within m (most m top s) (config_statement_mentions (config_statement.Spawn sp) bound) → (spawn_found context made sp).faults ≡ [] → Listed m top s (spawn_found context made sp).reached
+    one_counted : (own : List ℕ) (made : Made) (sp : Spawn) (number : ℕ) → (spawn_found context made sp).faults ≡ [] → Listed m top s (spawn_found context made sp).reached
         → size_of_family (spawned m known.items place own env held sp number) ≡ spawn_count known.items counted env sp (as_proc (item_named sp.target.name m.items))
-    one_counted own made sp number within f r =
-        let t = spawn_there m top s procs complete typed p parametric_args (well m top s complete typed p parametric_args here) made sp bound within f r in
+    one_counted own made sp number f r =
+        let t = spawn_there m top s procs complete typed p parametric_args (well m top s complete typed p parametric_args here) made sp bound f r in
         let named = proc_named m sp.target.name t.target t.is in
         let ends = handed_over t.target.config.ends (channels_of_ends held sp.ends) in
         let elaborated : spawned m known.items place own env held sp number ≡ place own t.target t.parametric_args ends number =
@@ -89,27 +87,25 @@ module _ (m : Module) (top : Option (List ℕ)) (s : IsAccepted m top) (procs : 
         ∙ sym (ap (count_of_parametric_args counted t.target) t.given) ∙ sym (ap (spawn_count known.items counted env sp) t.is)
 
     -- children with the channels that are made beside them
-    children_counted : (made : Made) (ms : List ConfigStatement) (k number : ℕ) → Within m (most m top s) (flat_map (λ (x : ConfigStatement). config_statement_mentions x bound) ms) → (config_statements_found context made ms).faults ≡ [] → Listed m top s (config_statements_found context made ms).reached
+    children_counted : (made : Made) (ms : List ConfigStatement) (k number : ℕ) → (config_statements_found context made ms).faults ≡ [] → Listed m top s (config_statements_found context made ms).reached
         → beside_channels (length (made_chans path env ms)) (size_of_family (children m known.items place path env held ms k number)) ≡ config_statements_count m known.items counted env ms
-    children_counted made [] k number within f r = refl
-    children_counted made (config_statement.Channel c ∷ ms) k number within f r =
+    children_counted made [] k number f r = refl
+    children_counted made (config_statement.Channel c ∷ ms) k number f r =
         let next = made_with context made c in
-        let w = den_parts (ends_within m (most m top s)) m (config_statement_mentions (config_statement.Channel c) bound) (flat_map (λ (x : ConfigStatement). config_statement_mentions x bound) ms) within in
         let a = none_in (channel_found context made c).faults (config_statements_found context next ms).faults f in
         let b = all_in (λ i. is_reached i (all m top s)) (channel_found context made c).reached (config_statements_found context next ms).reached r in
-        let rest = children_counted next ms k number w.1 a.1 b.1 in
+        let rest = children_counted next ms k number a.1 b.1 in
         let few : 0 + length (children m known.items place path env held ms k number).procs ≡ (config_statements_count m known.items counted env ms).procs = ap (λ (n : Count). n.procs) rest in
         let many : length (made_chans path env ms) + length (children m known.items place path env held ms k number).chans ≡ (config_statements_count m known.items counted env ms).channels = ap (λ (n : Count). n.channels) rest in
         one_count (beside_channels (suc (length (made_chans path env ms))) (size_of_family (children m known.items place path env held ms k number)))
         (and_count (record { procs = 0; channels = 1 }) (config_statements_count m known.items counted env ms)) (omega arith) (omega arith)
-    children_counted made (config_statement.Spawn sp ∷ ms) k number within f r =
-        let w = den_parts (ends_within m (most m top s)) m (config_statement_mentions (config_statement.Spawn sp) bound) (flat_map (λ (x : ConfigStatement). config_statement_mentions x bound) ms) within in
+    children_counted made (config_statement.Spawn sp ∷ ms) k number f r =
         let a = none_in (spawn_found context made sp).faults (config_statements_found context made ms).faults f in
         let b = all_in (λ i. is_reached i (all m top s)) (spawn_found context made sp).reached (config_statements_found context made ms).reached r in
         let first = spawned m known.items place (child_path path k) env held sp number in
         let others = children m known.items place path env held ms (suc k) (number + length first.chans) in
         both_counted first others (length (made_chans path env ms)) (spawn_count known.items counted env sp (as_proc (item_named sp.target.name m.items))) (config_statements_count m known.items counted env ms)
-        (one_counted (child_path path k) made sp number w.0 a.0 b.0) (children_counted made ms (suc k) (number + length first.chans) w.1 a.1 b.1)
+        (one_counted (child_path path k) made sp number a.0 b.0) (children_counted made ms (suc k) (number + length first.chans) a.1 b.1)
       where
         both_counted : (first others : Family) (own : ℕ) (c e : Count) → size_of_family first ≡ c → beside_channels own (size_of_family others) ≡ e
             → beside_channels own (record { procs = length (first.procs ++ others.procs); channels = length (first.chans ++ others.chans) }) ≡ and_count c e
@@ -136,7 +132,7 @@ module _ (m : Module) (top : Option (List ℕ)) (s : IsAccepted m top) (procs : 
         let b = all_in (λ i. is_reached i (all m top s)) outer.reached (made.reached ++ []) parts.listed in
         let own = made_chans path env p.config.config_statements in
         let others = children m known.items place path env held p.config.config_statements 0 number in
-        let rest = children_counted start p.config.config_statements 0 number (proc_there m top s p here.checked.named).config_statements (none_in made.faults _ a.1).0 (all_in (λ i. is_reached i (all m top s)) made.reached [] b.1).0 in
+        let rest = children_counted start p.config.config_statements 0 number (none_in made.faults _ a.1).0 (all_in (λ i. is_reached i (all m top s)) made.reached [] b.1).0 in
         let few : 0 + length others.procs ≡ (config_statements_count m known.items counted env p.config.config_statements).procs = ap (λ (n : Count). n.procs) rest in
         let many : length own + length others.chans ≡ (config_statements_count m known.items counted env p.config.config_statements).channels = ap (λ (n : Count). n.channels) rest in
         let both = length-append own others.chans in

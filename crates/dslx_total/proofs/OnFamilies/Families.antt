@@ -1,6 +1,5 @@
 -- A proc with which nothing is wrong, and all that it spawns, as they are placed in a network.
 use Rattle.std.proofs.Common.{◌≡◌, ◌+◌, ◌++◌, ℕ, zero, suc, length, List, [], ◌∷◌, Option, Some, sym, ap, subst, ◌∙◌}
-use Rattle.std.specs.Prelude.{flat_map}
 use Rattle.dslx_tree.specs.declared.item.Module.{Module}
 use Rattle.dslx_tree.specs.declared.process.End.{End}
 use Rattle.dslx_tree.specs.declared.process.ConfigStatement.{ConfigStatement}
@@ -13,12 +12,10 @@ use Rattle.dslx_meaning.specs.Lists.{and_then}
 use Rattle.dslx_meaning.specs.Network.{Family, Held, Elaborated, Elaboration, channels_of_ends, child_path, children, handed_over, made_chans, made_ends, elaborate_within, spawn_parametric_args, spawned, spawned_at}
 use Rattle.dslx_meaning.specs.declared.value.DslxValue.{DslxValue}
 use Rattle.dslx_meaning.specs.Rules.TypeEnvs.{GlobalEnv, TypeEnv}
-use Rattle.dslx_meaning.specs.Rules.Mentions.{config_statement_mentions, parametric_names}
+use Rattle.dslx_meaning.specs.Rules.Mentions.{parametric_names}
 use Rattle.dslx_meaning.specs.Rules.ModuleRules.{is_reached}
 use Rattle.dslx_meaning.specs.Rules.ProcRules.{Made, channel_found, ends_found, made_at_start, made_with, config_statements_found, proc_type_env, spawn_found}
-use Rattle.dslx_core.specs.Typing.TypingRelations.Closed.{ends_within}
 use Rattle.dslx_core.proofs.Lemmas.Typing.Sound.{all_in, none_in}
-use Rattle.dslx_core.proofs.Lemmas.Typing.Depends.{den_parts}
 use Rattle.dslx_core.specs.Typing.Typed.Complete.{IsComplete}
 use Rattle.dslx_core.specs.Typing.Typed.WellTyped.{IsWellTypedEnv}
 use Rattle.dslx_core.specs.Typing.Complete.HasValue.{AreTyped}
@@ -30,7 +27,7 @@ use Rattle.dslx_core.proofs.Lemmas.Typing.Accepted.{IsAccepted, one_of_these}
 use Rattle.dslx_total.specs.Families.EachElaborated.{EachElaborated}
 use Rattle.dslx_total.specs.Families.Plain.{ProcsBindNoConstant}
 use Rattle.dslx_total.proofs.OnFamilies.Acts.{parts_well_typed}
-use Rattle.dslx_total.proofs.OnFamilies.Reached.{K, Listed, Within, all, most, proc_there}
+use Rattle.dslx_total.proofs.OnFamilies.Reached.{K, Listed, all}
 use Rattle.dslx_total.proofs.OnFamilies.Spawns.{proc_named, spawn_there}
 use Rattle.dslx_total.proofs.OnFamilies.There.{IsThere, well}
 
@@ -75,10 +72,10 @@ module _ (m : Module) (top : Option (List ℕ)) (s : IsAccepted m top) (procs : 
     abbrev bound : List (List ℕ)
     bound = parametric_names p.parametrics
 
-    one_spawned : (own : List ℕ) (made : Made) (sp : Spawn) (number : ℕ) → Within m (most m top s) (config_statement_mentions (config_statement.Spawn sp) bound) → (spawn_found context made sp).faults ≡ [] → Listed m top s (spawn_found context made sp).reached
+    one_spawned : (own : List ℕ) (made : Made) (sp : Spawn) (number : ℕ) → (spawn_found context made sp).faults ≡ [] → Listed m top s (spawn_found context made sp).reached
         → EachElaborated Q (spawned m known.items place own env held sp number).procs
-    one_spawned own made sp number within f r =
-        let t = spawn_there m top s procs complete typed p parametric_args (well m top s complete typed p parametric_args here) made sp bound within f r in
+    one_spawned own made sp number f r =
+        let t = spawn_there m top s procs complete typed p parametric_args (well m top s complete typed p parametric_args here) made sp bound f r in
         let named = proc_named m sp.target.name t.target t.is in
         let elaborated : spawned m known.items place own env held sp number ≡ place own t.target t.parametric_args (handed_over t.target.config.ends (channels_of_ends held sp.ends)) number =
         (λ i. spawned_at place own held sp number (t.is i) (and_then (t.is i) (λ q. spawn_parametric_args known.items env q sp.arguments))) ∙ ap (spawned_at place own held sp number (Some t.target)) t.given in
@@ -86,22 +83,20 @@ module _ (m : Module) (top : Option (List ℕ)) (s : IsAccepted m top) (procs : 
         (such own t.target t.parametric_args (handed_over t.target.config.ends (channels_of_ends held sp.ends)) number
         (record { checked = record { named = named; among = one_of_these (record { name = t.target.name.name; parametric_args = t.parametric_args }) (all m top s) t.among }; own = t.own }))
 
-    pub children_such : (made : Made) (ms : List ConfigStatement) (k number : ℕ) → Within m (most m top s) (flat_map (λ (x : ConfigStatement). config_statement_mentions x bound) ms) → (config_statements_found context made ms).faults ≡ [] → Listed m top s (config_statements_found context made ms).reached
+    pub children_such : (made : Made) (ms : List ConfigStatement) (k number : ℕ) → (config_statements_found context made ms).faults ≡ [] → Listed m top s (config_statements_found context made ms).reached
         → EachElaborated Q (children m known.items place path env held ms k number).procs
-    children_such made [] k number within f r = tt
-    children_such made (config_statement.Channel c ∷ ms) k number within f r =
+    children_such made [] k number f r = tt
+    children_such made (config_statement.Channel c ∷ ms) k number f r =
         let next = made_with context made c in
-        let w = den_parts (ends_within m (most m top s)) m (config_statement_mentions (config_statement.Channel c) bound) (flat_map (λ (x : ConfigStatement). config_statement_mentions x bound) ms) within in
         let a = none_in (channel_found context made c).faults (config_statements_found context next ms).faults f in
         let b = all_in (λ i. is_reached i (all m top s)) (channel_found context made c).reached (config_statements_found context next ms).reached r in
-        children_such next ms k number w.1 a.1 b.1
-    children_such made (config_statement.Spawn sp ∷ ms) k number within f r =
-        let w = den_parts (ends_within m (most m top s)) m (config_statement_mentions (config_statement.Spawn sp) bound) (flat_map (λ (x : ConfigStatement). config_statement_mentions x bound) ms) within in
+        children_such next ms k number a.1 b.1
+    children_such made (config_statement.Spawn sp ∷ ms) k number f r =
         let a = none_in (spawn_found context made sp).faults (config_statements_found context made ms).faults f in
         let b = all_in (λ i. is_reached i (all m top s)) (spawn_found context made sp).reached (config_statements_found context made ms).reached r in
         let first = spawned m known.items place (child_path path k) env held sp number in
         each_behind Q first.procs (children m known.items place path env held ms (suc k) (number + length first.chans)).procs
-        (one_spawned (child_path path k) made sp number w.0 a.0 b.0) (children_such made ms (suc k) (number + length first.chans) w.1 a.1 b.1)
+        (one_spawned (child_path path k) made sp number a.0 b.0) (children_such made ms (suc k) (number + length first.chans) a.1 b.1)
 
   -- by spawns of any number
   pub all_elaborated : (Q : Proc → List DslxValue → Type 0) → ((p : Proc) (parametric_args : List DslxValue) → IsThere m top s p parametric_args → Q p parametric_args) → (n : ℕ) → ScopesSuch Q (elaborate_within m known.items n)
@@ -118,5 +113,5 @@ module _ (m : Module) (top : Option (List ℕ)) (s : IsAccepted m top) (procs : 
       let own = made_chans path env p.config.config_statements in (
         each p parametric_args here,
         children_such Q (elaborate_within m known.items n) (all_elaborated Q each n) p parametric_args here path (ends ++ made_ends number p.config.config_statements) start p.config.config_statements 0 (number + length own)
-            (proc_there m top s p here.checked.named).config_statements (none_in made.faults _ a.1).0 (all_in (λ i. is_reached i (all m top s)) made.reached [] b.1).0,
+            (none_in made.faults _ a.1).0 (all_in (λ i. is_reached i (all m top s)) made.reached [] b.1).0,
       )

@@ -1,6 +1,6 @@
 -- Parametrics of procs: what is known of their types and defaults is what is meant, and where nothing is wrong with them they
 -- are known.
-use Rattle.std.proofs.Common.{◌*◌, ◌≡◌, ◌≤◌, ◌&&◌, ◌++◌, ℕ, zero, suc, length, Bool, true, not, List, [], ◌∷◌, map, Option, Some, None, arith, refl, sym, ap, subst, ◌∙◌}
+use Rattle.std.proofs.Common.{◌*◌, ◌≡◌, ◌≤◌, ◌++◌, ℕ, zero, suc, length, Bool, true, not, List, [], ◌∷◌, map, Option, Some, None, arith, refl, sym, ap, subst, ◌∙◌, false}
 use mathlib.Core.Bool.{true≢false}
 use Rattle.std.specs.List.{list_all}
 use Rattle.dslx_tree.specs.declared.expr.Expr.{Expr}
@@ -16,29 +16,28 @@ use Rattle.dslx_meaning.specs.Items.{item_named, parametric_args_bound, with_num
 use Rattle.dslx_meaning.specs.declared.value.DslxValue.{DslxValue}
 use Rattle.dslx_meaning.specs.Rules.TypeEnvs.{DefaultSeen, Judgement, GlobalEnv, Signature}
 use Rattle.dslx_meaning.specs.Rules.ItemRules.{item_type_env, typing_of_inner, typing_of_type}
-use Rattle.dslx_meaning.specs.Rules.Mentions.{AsEnum, Mention, ends_mentions, expr_if, is_of_use, item_reaches, mentioned, mentioned_in_type, mentions_of, names_mentioned, parametric_names, parametrics_mentions}
+use Rattle.dslx_meaning.specs.Rules.Mentions.{AsEnum, Mention, ends_mentions, expr_if, is_of_use, item_reaches, mentioned, mentioned_in_type, names_mentioned, parametric_names, parametrics_mentions}
 use Rattle.dslx_meaning.specs.Rules.ModuleRules.{declared_type, default_if, default_known, globals_of, globals_over, globals_within, parametrics_of}
 use Rattle.dslx_meaning.specs.Rules.TypeRules.{unless_unit}
 use Rattle.dslx_meaning.specs.Rules.NodeRules.{expr_pair, type_pair}
-use Rattle.dslx_core.specs.Typing.TypingRelations.Closed.{ends_within}
 use Rattle.dslx_core.specs.Typing.TypingRelations.Reached.{DeclarationReaches, MentionsReach}
-use Rattle.dslx_core.proofs.Lemmas.Typing.TypingRelations.{closed, den_reach, parametrics_reach, whole_is}
+use Rattle.dslx_core.proofs.Lemmas.Typing.TypingRelations.{den_reach, own_reached, parametrics_reach, whole_is}
 use Rattle.dslx_core.specs.Typing.Depends.Alike.{DeclaredAlike, NamesAlike, SeesAlike}
 use Rattle.dslx_core.specs.Typing.Depends.Settled.{AreNoConstants, BindsNoConstant}
-use Rattle.dslx_core.proofs.Lemmas.Typing.Depends.{Stage, Stands, declared_alike, default_is, env_behind, parameter_is, signature_is, stands_next, constant_alike, constant_same, expression_alike, inner_same, is_proc_item, den_parts, names_no_procs, parametrics_none, passes, passes_closed, plain_alike, reached_in, sees_where, stage, written_type_alike}
+use Rattle.dslx_core.proofs.Lemmas.Typing.Depends.{Stage, Stands, declared_alike, default_is, env_behind, parameter_is, signature_is, stands_next, constant_alike, constant_same, expression_alike, inner_same, all_below, is_proc_item, item_rank, den_parts, mentions_settle, not_true, parametrics_none, proc_below, ranked, ranks_settle, settles, settles_closed, plain_alike, sees_where, written_type_alike}
 use Rattle.dslx_core.specs.Typing.Typed.Complete.{EachParametricKnown, IsComplete, IsDefaultKnown, IsWellTypedPart, IsTypeKnown, signature_at}
 use Rattle.dslx_core.specs.Typing.Typed.Numbers.{AreOwn, ParametricsMean, values_behind}
 use Rattle.dslx_core.proofs.Lemmas.Typing.Typed.{own_more, own_value}
 use Rattle.dslx_core.specs.Typing.Complete.HasValue.{AreTyped}
 use Rattle.dslx_core.proofs.Lemmas.Typing.Complete.{parametric_has_value}
-use Rattle.dslx_total.proofs.OnFamilies.Reached.{IsProcOf, ends_none, proc_within}
+use Rattle.dslx_total.proofs.OnFamilies.Reached.{IsProcOf, ProcWithin, ends_none, proc_within}
 
 -- the types of the words of ends that are known for instances of a proc are what they are typed to in its text
 abbrev pub EndsAreTyped : GlobalEnv → Proc → Type 0
 EndsAreTyped known p = (parametric_args : List DslxValue) → (signature_at known p.name.name parametric_args).arguments
     ≡ map (λ (e : End). declared_type (item_type_env known p.name.name (parametric_args_bound [] p.parametrics parametric_args)) e.word) p.config.ends
 
--- ---- by one item more in chains
+-- ---- by one level more
 
 no_proc_enum : (o : Option Definition) → is_of_use AsEnum o ≡ true → not (is_proc_item o) ≡ true
 no_proc_enum (Some (d.Enum x)) e = refl
@@ -49,7 +48,7 @@ no_proc_enum (Some (d.Alias a)) e = refl
 no_proc_enum (Some (d.Struct x)) e = refl
 no_proc_enum None e = refl
 
-module _ (m : Module) (plain : BindsNoConstant m) (k j : ℕ) (long : k ≤ j) (owner : List ℕ) (own : list_all (ends_within m k) (mentions_of m (item_named owner m.items)) ≡ true) where
+module _ (m : Module) (plain : BindsNoConstant m) (k j : ℕ) (long : 2 * k ≤ j) (owner : List ℕ) (low : (name : List ℕ) → item_reaches m owner name ≡ true → is_proc_item (item_named name m.items) ≡ false → settles m k name ≡ true) where
   abbrev a : GlobalEnv
   a = globals_within m j
 
@@ -57,18 +56,18 @@ module _ (m : Module) (plain : BindsNoConstant m) (k j : ℕ) (long : k ≤ j) (
   b = globals_within m (suc j)
 
   abbrev Passing : List ℕ → Bool
-  Passing = passes m k
+  Passing = settles m k
 
   there : Stage Passing m a b
-  there = let more : k ≤ suc j = omega (arith, long) in stage m plain k j (suc j) long more
+  there = let more : 2 * k ≤ suc j = omega (arith, long) in ranks_settle m plain k j (suc j) long more
 
   abbrev ExprDen : List Mention → Type 0
   ExprDen ms = list_all Passing (names_mentioned m ms) ≡ true
 
-  -- the enums that the item reaches have shorter chains
+  -- the enums that the item reaches stand below
   sees : (bound : List (List ℕ)) → NamesAlike a b bound → (ms : List Mention) → ExprDen ms → SeesAlike Passing bound owner a b ms
-  sees = sees_where Passing m a b (passes_closed m k) there owner
-      (λ name e q i. reached_in (ends_within m k) m (closed m k) (length m.items) owner name own (sym (λ t. item_reaches (there.text t) owner name) ∙ e) i && no_proc_enum (item_named name m.items) q i)
+  sees = sees_where Passing m a b (settles_closed m k) there owner
+      (λ name e q. low name (sym (λ t. item_reaches (there.text t) owner name) ∙ e) (not_true (is_proc_item (item_named name m.items)) (no_proc_enum (item_named name m.items) q)))
 
   -- parametrics that are left behind these names, and what they mention
   record LeftAlike (bound : List (List ℕ)) (left : List Parametric) : Type 0 where
@@ -122,38 +121,40 @@ module _ (m : Module) (plain : BindsNoConstant m) (k j : ℕ) (long : k ≤ j) (
 
 -- ---- of the whole text
 
--- where something is there, chains have an item
-one_longer : {X : Type 0} (m : Module) (name : List ℕ) → ends_within m (length m.items) name ≡ true → ((k : ℕ) → length m.items ≡ suc k → X) → X
-one_longer {X = X} m name h f = by_length (length m.items) refl
+-- where something is there, it has a rank
+one_rank : {X : Type 0} (m : Module) (name : List ℕ) → ranked m (length m.items) name ≡ true → ((k : ℕ) → length m.items ≡ suc k → X) → X
+one_rank {X = X} m name h f = by_length (length m.items) refl
   where
     by_length : (n : ℕ) → length m.items ≡ n → X
-    by_length zero e = absurd (true≢false (sym h ∙ (λ i. ends_within m (e i) name)))
+    by_length zero e = absurd (true≢false (sym h ∙ (λ i. ranked m (e i) name)))
     by_length (suc k) e = f k e
 
-module _ (m : Module) (plain : BindsNoConstant m) (p : Proc) (named : IsProcOf m p) (ends : ends_within m (length m.items) p.name.name ≡ true) where
-  abbrev mentions_at : ℕ → Type 0
-  mentions_at k = ends_within m (suc k) p.name.name ≡ true
+module _ (m : Module) (plain : BindsNoConstant m) (p : Proc) (named : IsProcOf m p) where
+  abbrev rank_at : ℕ → Type 0
+  rank_at k = ranked m (suc k) p.name.name ≡ true
 
-  own_parametrics : (k : ℕ) → mentions_at k → list_all (passes m k) (names_mentioned m (parametrics_mentions p.parametrics [])) ≡ true
-  own_parametrics k h =
-      names_no_procs m k (parametrics_mentions p.parametrics []) (parametrics_none p.parametrics [])
-      (proc_within m k p ((λ i. list_all (ends_within m k) (mentions_of m (sym named i))) ∙ h)).parametrics
+  rank : ranked m (length m.items) p.name.name ≡ true
+  rank = item_rank m p.name.name (d.Proc p) named
 
-  own_ends : (k : ℕ) → mentions_at k → list_all (passes m k) (names_mentioned m (ends_mentions p.config.ends (parametric_names p.parametrics))) ≡ true
-  own_ends k h =
-      let bound = parametric_names p.parametrics in
-      names_no_procs m k (ends_mentions p.config.ends bound) (ends_none p.config.ends bound) (proc_within m k p ((λ i. list_all (ends_within m k) (mentions_of m (sym named i))) ∙ h)).ends
+  parts : ProcWithin (item_reaches m p.name.name) m p
+  parts = proc_within (item_reaches m p.name.name) m p (own_reached m p.name.name (d.Proc p) named)
+
+  own_parametrics : (k : ℕ) → rank_at k → list_all (settles m k) (names_mentioned m (parametrics_mentions p.parametrics [])) ≡ true
+  own_parametrics k h = all_below m k p named h (parametrics_mentions p.parametrics []) (parametrics_none p.parametrics []) parts.parametrics
+
+  own_ends : (k : ℕ) → rank_at k → list_all (settles m k) (names_mentioned m (ends_mentions p.config.ends (parametric_names p.parametrics))) ≡ true
+  own_ends k h = let bound = parametric_names p.parametrics in all_below m k p named h (ends_mentions p.config.ends bound) (ends_none p.config.ends bound) parts.ends
 
   pub globals_alike : AreNoConstants m (parametric_names p.parametrics) → DeclaredAlike (globals_of m) (globals_over (globals_of m)) p.name.name
-  globals_alike hidden = one_longer m p.name.name ends (λ k e.
-      let h : mentions_at k = (λ i. ends_within m (sym e i) p.name.name) ∙ ends in
+  globals_alike hidden = one_rank m p.name.name rank (λ k e.
+      let h : rank_at k = (λ i. ranked m (sym e i) p.name.name) ∙ rank in
       let j = suc (2 * k) in
       let level : 2 * length m.items ≡ suc j = omega (arith, e) in
-      let less : k ≤ j = omega arith in
-      let more : k ≤ suc j = omega arith in
+      let less : 2 * k ≤ j = omega arith in
+      let more : 2 * k ≤ suc j = omega arith in
       subst (λ n. DeclaredAlike (globals_within m n) (globals_over (globals_within m n)) p.name.name) (sym level)
-      (proc_alike m plain k j less p.name.name h p named
-      (plain_alike (passes m k) m (globals_within m j) (globals_within m (suc j)) (passes_closed m k) (stage m plain k j (suc j) less more) (parametric_names p.parametrics) hidden) (own_parametrics k h) (own_ends k h)))
+      (proc_alike m plain k j less p.name.name (proc_below m k p named h) p named
+      (plain_alike (settles m k) m (globals_within m j) (globals_within m (suc j)) (settles_closed m k) (ranks_settle m plain k j (suc j) less more) (parametric_names p.parametrics) hidden) (own_parametrics k h) (own_ends k h)))
 
   -- it has the item in what is known
   pub proc_known : item_named p.name.name (globals_of m).whole.items ≡ Some (d.Proc p)
@@ -164,17 +165,16 @@ module _ (m : Module) (plain : BindsNoConstant m) (p : Proc) (named : IsProcOf m
       ap (λ (x : Signature). x.arguments) ((globals_alike hidden).signature (values_behind [] parametric_args) ∙ signature_is p.name.name (d.Proc p) parametric_args (globals_of m) proc_known)
 
   -- what their types and defaults reach passes
-  pub parametrics_pass : DeclarationReaches (passes m (length m.items)) (globals_of m) p.name.name
-  parametrics_pass = one_longer m p.name.name ends (λ k e.
-      let P = passes m (length m.items) in
-      let within = proc_within m (length m.items) p ((λ i. list_all (ends_within m (length m.items)) (mentions_of m (sym named i))) ∙ closed m (length m.items) p.name.name ends) in
+  pub parametrics_pass : DeclarationReaches (settles m (length m.items)) (globals_of m) p.name.name
+  parametrics_pass = one_rank m p.name.name rank (λ k e.
+      let P = settles m (length m.items) in
       let j = suc (2 * k) in
       let level : 2 * length m.items ≡ suc j = omega (arith, e) in
       let here : item_named p.name.name (globals_within m j).whole.items ≡ Some (d.Proc p) = (λ i. item_named p.name.name (whole_is m j i).items) ∙ named in
       subst (λ n. DeclarationReaches P (globals_within m n) p.name.name) (sym level)
       (parametrics_reach P (globals_within m j) p.name.name
       (subst (λ o. MentionsReach P (globals_within m j) p.name.name (parametrics_mentions (parametrics_of o) [])) (sym here)
-      (den_reach P m (passes_closed m (length m.items)) j p.name.name (parametrics_mentions p.parametrics []) (names_no_procs m (length m.items) (parametrics_mentions p.parametrics []) (parametrics_none p.parametrics []) within.parametrics)))))
+      (den_reach P m (settles_closed m (length m.items)) j p.name.name (parametrics_mentions p.parametrics []) (mentions_settle m (parametrics_mentions p.parametrics []) (parametrics_none p.parametrics []))))))
 
 -- ---- what is known
 

@@ -1,5 +1,5 @@
 -- What the parts of a text without faults reach that mention no proc: sound instances.
-use Rattle.std.proofs.Common.{◌*◌, ◌≡◌, ◌≤◌, ◌&&◌, ◌++◌, ℕ, length, Bool, true, List, [], ◌∷◌, Option, Some, arith, inl, inr, refl, sym, ◌∙◌}
+use Rattle.std.proofs.Common.{◌*◌, ◌≡◌, ◌≤◌, ◌&&◌, ◌++◌, ℕ, length, Bool, true, List, [], ◌∷◌, Option, Some, arith, inl, inr, refl}
 use Rattle.std.specs.List.{list_all}
 use Rattle.dslx_tree.specs.declared.item.Definition.TheVariants as d
 use Rattle.dslx_tree.specs.declared.item.Module.{Module}
@@ -10,13 +10,13 @@ use Rattle.dslx_tree.specs.declared.expr.Arg.{Arg}
 use Rattle.std.specs.Prelude.{flat_map}
 use Rattle.dslx_meaning.specs.Items.{item_named}
 use Rattle.dslx_meaning.specs.Rules.TypeEnvs.{Instance, GlobalEnv}
-use Rattle.dslx_meaning.specs.Rules.Mentions.{Mention, ends_mentions, config_statement_mentions, mentioned_in_arg, mentioned_in_block, mentioned_in_type, mentions_of, names_mentioned, parametric_names, parametrics_mentions, proc_mentions}
+use Rattle.dslx_meaning.specs.Rules.Mentions.{Mention, ends_mentions, config_statement_mentions, mentioned_in_arg, mentioned_in_block, mentioned_in_type, names_mentioned, parametric_names, parametrics_mentions, proc_mentions}
 use Rattle.dslx_meaning.specs.Rules.ModuleRules.{instances_of, is_reached, globals_of}
 use Rattle.dslx_core.proofs.Lemmas.Typing.Laws.{and_true}
-use Rattle.dslx_core.specs.Typing.TypingRelations.Closed.{IsOneOf, ends_within}
+use Rattle.dslx_core.specs.Typing.TypingRelations.Closed.{IsOneOf}
 use Rattle.dslx_core.specs.Typing.TypingRelations.Reached.{AllNamed, MentionsReach}
-use Rattle.dslx_core.proofs.Lemmas.Typing.TypingRelations.{closed, every_item, den_reach}
-use Rattle.dslx_core.proofs.Lemmas.Typing.Depends.{NoProcs, den_parts, names_no_procs, no_proc_in_arg, no_proc_in_type, no_procs_join, passes, passes_closed}
+use Rattle.dslx_core.proofs.Lemmas.Typing.TypingRelations.{den_reach}
+use Rattle.dslx_core.proofs.Lemmas.Typing.Depends.{NoProcs, den_parts, mentions_settle, no_proc_in_arg, no_proc_in_type, no_procs_join, settles, settles_closed}
 use Rattle.dslx_core.proofs.Lemmas.Typing.Accepted.{IsAccepted, one_of_these, sound}
 
 -- a proc of the text, by its name
@@ -32,23 +32,22 @@ pub arguments_none : (as' : List Arg) (bound : List (List ℕ)) → NoProcs (fla
 arguments_none [] bound = tt
 arguments_none (a ∷ as') bound = no_procs_join (mentioned_in_arg a bound) (flat_map (λ b. mentioned_in_arg b bound) as') (no_proc_in_arg a bound) (arguments_none as' bound)
 
--- chains from what is mentioned have at most so many items
-abbrev pub Within : Module → ℕ → List Mention → Type 0
-Within m k ms = list_all (ends_within m k) (names_mentioned m ms) ≡ true
+-- all that is mentioned passes the test
+abbrev pub Within : (List ℕ → Bool) → Module → List Mention → Type 0
+Within R m ms = list_all R (names_mentioned m ms) ≡ true
 
 -- what a proc mentions, by its parts
-pub record ProcWithin (m : Module) (k : ℕ) (p : Proc) : Type 0 where
-  pub parametrics : Within m k (parametrics_mentions p.parametrics [])
-  pub members : Within m k (ends_mentions p.members (parametric_names p.parametrics))
-  pub ends : Within m k (ends_mentions p.config.ends (parametric_names p.parametrics))
-  pub config_statements : Within m k (flat_map (λ (x : ConfigStatement). config_statement_mentions x (parametric_names p.parametrics)) p.config.config_statements)
-  pub init : Within m k (mentioned_in_block p.init (parametric_names p.parametrics))
-  pub state : Within m k (mentioned_in_type p.next.ty (parametric_names p.parametrics))
-  pub next : Within m k (mentioned_in_block p.next.body (p.next.state.name ∷ parametric_names p.parametrics))
+pub record ProcWithin (R : List ℕ → Bool) (m : Module) (p : Proc) : Type 0 where
+  pub parametrics : Within R m (parametrics_mentions p.parametrics [])
+  pub members : Within R m (ends_mentions p.members (parametric_names p.parametrics))
+  pub ends : Within R m (ends_mentions p.config.ends (parametric_names p.parametrics))
+  pub config_statements : Within R m (flat_map (λ (x : ConfigStatement). config_statement_mentions x (parametric_names p.parametrics)) p.config.config_statements)
+  pub init : Within R m (mentioned_in_block p.init (parametric_names p.parametrics))
+  pub state : Within R m (mentioned_in_type p.next.ty (parametric_names p.parametrics))
+  pub next : Within R m (mentioned_in_block p.next.body (p.next.state.name ∷ parametric_names p.parametrics))
 
-pub proc_within : (m : Module) (k : ℕ) (p : Proc) → Within m k (proc_mentions p) → ProcWithin m k p
-proc_within m k p h =
-    let P = ends_within m k in
+pub proc_within : (R : List ℕ → Bool) (m : Module) (p : Proc) → Within R m (proc_mentions p) → ProcWithin R m p
+proc_within R m p h =
     let parametric_args = parametric_names p.parametrics in
     let one = parametrics_mentions p.parametrics [] in
     let two = ends_mentions p.members parametric_args in
@@ -57,12 +56,12 @@ proc_within m k p h =
     let five = mentioned_in_block p.init parametric_args in
     let six = mentioned_in_type p.next.ty parametric_args in
     let seven = mentioned_in_block p.next.body (p.next.state.name ∷ parametric_args) in
-    let a = den_parts P m (((((one ++ two) ++ three) ++ four) ++ five) ++ six) seven h in
-    let b = den_parts P m ((((one ++ two) ++ three) ++ four) ++ five) six a.0 in
-    let c = den_parts P m (((one ++ two) ++ three) ++ four) five b.0 in
-    let e = den_parts P m ((one ++ two) ++ three) four c.0 in
-    let f = den_parts P m (one ++ two) three e.0 in
-    let g = den_parts P m one two f.0 in
+    let a = den_parts R m (((((one ++ two) ++ three) ++ four) ++ five) ++ six) seven h in
+    let b = den_parts R m ((((one ++ two) ++ three) ++ four) ++ five) six a.0 in
+    let c = den_parts R m (((one ++ two) ++ three) ++ four) five b.0 in
+    let e = den_parts R m ((one ++ two) ++ three) four c.0 in
+    let f = den_parts R m (one ++ two) three e.0 in
+    let g = den_parts R m one two f.0 in
     record { parametrics = g.0; members = g.1; ends = f.1; config_statements = e.1; init = c.1; state = b.1; next = a.1 }
 
 module _ (m : Module) (top : Option (List ℕ)) (s : IsAccepted m top) where
@@ -76,7 +75,7 @@ module _ (m : Module) (top : Option (List ℕ)) (s : IsAccepted m top) where
   most = length m.items
 
   abbrev pub Passing : List ℕ → Bool
-  Passing = passes m most
+  Passing = settles m most
 
   -- each of these is checked
   abbrev pub Listed : List Instance → Type 0
@@ -93,10 +92,6 @@ module _ (m : Module) (top : Option (List ℕ)) (s : IsAccepted m top) where
       let enough : most ≤ most = omega arith in
       λ t. sound m top s most enough i (one_of_these i all q.0) named.0 t && all_sound is named.1 q.1 t
 
-  -- what a proc of the text mentions
-  pub proc_there : (p : Proc) → IsProcOf m p → ProcWithin m most p
-  proc_there p e = proc_within m most p ((λ i. list_all (ends_within m most) (mentions_of m (sym e i))) ∙ closed m most p.name.name (every_item m s.free p.name.name (d.Proc p) e))
-
   -- where no proc is mentioned, what is reached passes
-  pub reaching : (owner : List ℕ) (ms : List Mention) → NoProcs ms → Within m most ms → MentionsReach Passing K owner ms
-  reaching owner ms none h = den_reach Passing m (passes_closed m most) (2 * most) owner ms (names_no_procs m most ms none h)
+  pub reaching : (owner : List ℕ) (ms : List Mention) → NoProcs ms → MentionsReach Passing K owner ms
+  reaching owner ms none = den_reach Passing m (settles_closed m most) (2 * most) owner ms (mentions_settle m ms none)

@@ -9,7 +9,6 @@ use Rattle.dslx_tree.specs.declared.expr.Arg.{Arg}
 use Rattle.dslx_tree.specs.declared.item.Definition.{Definition}
 use Rattle.dslx_tree.specs.declared.item.Definition.TheVariants as d
 use Rattle.dslx_tree.specs.declared.item.Module.{Module}
-use Rattle.dslx_tree.specs.declared.process.ConfigStatement.TheVariants as config_statement
 use Rattle.dslx_tree.specs.declared.process.End.{End}
 use Rattle.dslx_tree.specs.declared.process.Proc.{Proc}
 use Rattle.dslx_tree.specs.declared.process.Spawn.{Spawn}
@@ -23,16 +22,15 @@ use Rattle.dslx_meaning.specs.Rules.CallRules.{Before, ParametricArgument, Judge
 use Rattle.dslx_meaning.specs.Rules.ItemRules.{only_faults}
 use Rattle.dslx_meaning.specs.Rules.TypeEnvs.{Instance, GlobalEnv, TypeEnv, breaks, breaks_if, faults_of_all, has_broken, reached_of_all}
 use Rattle.dslx_meaning.specs.Rules.Typings.{ArgPair}
-use Rattle.dslx_meaning.specs.Rules.Mentions.{AsProc, config_statement_mentions, mention, mentioned_in_arg}
+use Rattle.dslx_meaning.specs.Rules.Mentions.{mentioned_in_arg}
 use Rattle.dslx_meaning.specs.Rules.ModuleRules.{declared_type, is_reached}
 use Rattle.dslx_meaning.specs.Rules.NodeRules.{arg_pair}
 use Rattle.dslx_meaning.specs.Rules.ProcRules.{Made, behind_ends, handed_faults, proc_parametric_args, proc_type_env, right_spawn, spawn_found, spawn_of, unknown_ends}
 use Rattle.dslx_core.proofs.Lemmas.Typing.Laws.{and_true}
-use Rattle.dslx_core.specs.Typing.TypingRelations.Closed.{ends_within}
-use Rattle.dslx_core.proofs.Lemmas.Typing.TypingRelations.{arguments_reach, every_item, given_reach, item_so_named, parametric_args_reach, whole_is}
+use Rattle.dslx_core.proofs.Lemmas.Typing.TypingRelations.{arguments_reach, given_reach, item_so_named, parametric_args_reach, whole_is}
 use Rattle.dslx_core.specs.Typing.Sound.Sound.{EachExprGives}
 use Rattle.dslx_core.proofs.Lemmas.Typing.Sound.{AreGiven, EachGiven, all_in, argument_gives, typing_right, none_in, not_broken, parametric_args_given, parametric_args_known, some_fault}
-use Rattle.dslx_core.proofs.Lemmas.Typing.Depends.{den_parts, stands_first}
+use Rattle.dslx_core.proofs.Lemmas.Typing.Depends.{stands_first}
 use Rattle.dslx_core.specs.Typing.Typed.Complete.{IsComplete}
 use Rattle.dslx_core.specs.Typing.Typed.Numbers.{AllOwn, GivenMean, values_behind}
 use Rattle.dslx_core.specs.Typing.Typed.WellTyped.{IsWellTypedEnv}
@@ -42,7 +40,7 @@ use Rattle.dslx_core.proofs.Lemmas.Typing.Complete.{item_env, none_own, own_para
 use Rattle.dslx_core.proofs.Lemmas.Typing.Accepted.{IsAccepted}
 use Rattle.dslx_total.specs.Families.Plain.{ProcsBindNoConstant}
 use Rattle.dslx_total.proofs.OnFamilies.Parametrics.{globals_alike, own_ends_alike, parametrics_known, parametrics_mean, parametrics_pass, proc_known}
-use Rattle.dslx_total.proofs.OnFamilies.Reached.{IsProcOf, K, Listed, Passing, Within, all, all_sound, arguments_none, most, reaching}
+use Rattle.dslx_total.proofs.OnFamilies.Reached.{IsProcOf, K, Listed, Passing, all, all_sound, arguments_none, reaching}
 
 abbrev is_there : {A : Type 0} → Option A → Bool
 is_there None = false
@@ -101,20 +99,16 @@ module _ (m : Module) (top : Option (List ℕ)) (s : IsAccepted m top) (procs : 
     pub found : all_parametric_args known.items [] [] target.parametrics given ≡ Some parametric_args
     pub shown : (proc_parametric_args known target gs).bound ≡ known_before (values_behind [] parametric_args)
 
-  pub target_ends : (target : Proc) → IsProcOf m target → ends_within m (length m.items) target.name.name ≡ true
-  target_ends target named = every_item m s.free target.name.name (d.Proc target) named
-
   pub parametric_args_there : (name : List ℕ) (target : Proc) → as_proc (item_named name m.items) ≡ Some target → IsProcOf m target → (gs : List ParametricArgument) (vs : List DslxValue) → EachGiven known.items.type_named gs → GivenMean gs vs
       → (proc_parametric_args known target gs).faults ≡ [] → (proc_parametric_args known target gs).declared.faults ≡ [] → Listed m top s (proc_parametric_args known target gs).declared.reached → (proc_parametric_args known target gs).is_wrong ≡ false
       → ParametricArgsThere target gs vs
   parametric_args_there name target is named gs vs each mean f j r w =
       let owner = target.name.name in
-      let ends = target_ends target named in
-      let alike = globals_alike m s.plain target named ends (procs name target is) in
-      let here = proc_known m s.plain target named ends in
+      let alike = globals_alike m s.plain target named (procs name target is) in
+      let here = proc_known m s.plain target named in
       let all = stands_first owner (d.Proc target) in
       let seen = proc_parametric_args known target gs in
-      let passing = parametric_args_reach (Passing m top s) known owner [] [] (known_before []) target.parametrics gs (parametrics_pass m s.plain target named ends) in
+      let passing = parametric_args_reach (Passing m top s) known owner [] [] (known_before []) target.parametrics gs (parametrics_pass m s.plain target named) in
       let k = parametric_args_known known owner [] [] target.parametrics gs (parametrics_known known complete typed owner (d.Proc target) here alike [] [] (none_own known) target.parametrics all) each
       (record { given = f; declared = j; reached = all_sound m top s seen.declared.reached passing r; right = w }) in
       record {
@@ -171,7 +165,7 @@ module _ (m : Module) (top : Option (List ℕ)) (s : IsAccepted m top) (procs : 
         let listed = all_in test declared.reached (reached_by (is_refused (cyclic sp target) n) target.name.name n.values) r in
         let named = proc_named m sp.target.name target is in
         let k = parametric_args_there sp.target.name target is named (gs made sp) g.values g.each g.mean c.1 (ap (λ (j : JudgedThere). j.faults) (sym there) ∙ d.1) (ap (λ (j : JudgedThere). list_all test j.reached) (sym there) ∙ listed.0) no_wrong in
-        let alike = own_ends_alike m s.plain target named (target_ends target named) (procs sp.target.name target is) in
+        let alike = own_ends_alike m s.plain target named (procs sp.target.name target is) in
         let ways = ap (λ (b : Before). (known.signature_in target.name.name b.values).arguments) k.shown ∙ alike k.parametric_args in
         let i : Instance = record { name = target.name.name; parametric_args = k.parametric_args } in
         let one = and_true (test i) true ((λ t. list_all test (reached_by (has_broken (sym c.0 t) || sym no_wrong t) target.name.name (sym k.is t))) ∙ listed.1) in
@@ -187,9 +181,9 @@ module _ (m : Module) (top : Option (List ℕ)) (s : IsAccepted m top) (procs : 
           handed = (λ t. if sym no_wrong t then [] else handed_faults made (sym ways t) target.config.ends sp.ends) ∙ a.1;
         }
 
-    pub spawn_there : (made : Made) (sp : Spawn) (bound : List (List ℕ)) → Within m (most m top s) (config_statement_mentions (config_statement.Spawn sp) bound) → (spawn_found context made sp).faults ≡ [] → Listed m top s (spawn_found context made sp).reached
+    pub spawn_there : (made : Made) (sp : Spawn) (bound : List (List ℕ)) → (spawn_found context made sp).faults ≡ [] → Listed m top s (spawn_found context made sp).reached
         → SpawnThere made env sp
-    spawn_there made sp bound within f r =
+    spawn_there made sp bound f r =
         let given = given_judgements (gs made sp) in
         let unknown = unknown_ends made.names sp.ends in
         let spawned = spawn_of context made sp (gs made sp) (as_proc (item_named sp.target.name known.whole.items)) in
@@ -197,8 +191,7 @@ module _ (m : Module) (top : Option (List ℕ)) (s : IsAccepted m top) (procs : 
         let b = none_in unknown spawned.faults a.1 in
         let c = all_in test (reached_of_all given) spawned.reached r in
         let arguments = flat_map (λ (x : Arg). mentioned_in_arg x bound) sp.arguments in
-        let denotation = (den_parts (ends_within m (most m top s)) m (mention AsProc sp.target.name) arguments within).1 in
-        let passing = given_reach (Passing m top s) (behind_ends context made) (map arg_pair sp.arguments) (arguments_reach (Passing m top s) (behind_ends context made) sp.arguments bound (reaching m top s context.owner arguments (arguments_none sp.arguments bound) denotation)) in
+        let passing = given_reach (Passing m top s) (behind_ends context made) (map arg_pair sp.arguments) (arguments_reach (Passing m top s) (behind_ends context made) sp.arguments bound (reaching m top s context.owner arguments (arguments_none sp.arguments bound))) in
         let g = parametric_args_given (behind_ends context made) env (well_behind context env made well) (map arg_pair sp.arguments) (map arg_denotation sp.arguments) (each_argument sp.arguments) a.0 (all_sound m top s (reached_of_all given) passing c.0) in
         by_proc (as_proc (item_named sp.target.name known.whole.items)) refl b.0 g b.1 c.1
       where

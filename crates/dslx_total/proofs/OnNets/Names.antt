@@ -1,7 +1,7 @@
 -- The channels of a network with which nothing is wrong have names of their own.
 use Rattle.std.proofs.Common.{◌≡◌, ◌≤◌, ◌<◌, ◌^◌, ◌+◌, ◌%◌, ◌==◌, ◌||◌, ◌++◌, ℕ, zero, suc, Bool, true, false, if◌then◌else◌, List, [], ◌∷◌, map, length, Option, Some, None, arith, refl, sym, ap, subst, ◌∙◌}
 use mathlib.Core.Bool.{true≢false}
-use Rattle.std.specs.Prelude.{codes, decimal, flat_map, slice_get}
+use Rattle.std.specs.Prelude.{codes, decimal, slice_get}
 use Rattle.std.specs.List.{list_any}
 use Rattle.std.specs.Str.{bytes_eq}
 use Rattle.std.proofs.lemmas.Fmt.{decimal_by_steps, decimal_injective}
@@ -20,23 +20,21 @@ use Rattle.dslx_meaning.specs.Lists.{and_then, is_in}
 use Rattle.dslx_meaning.specs.Environment.{Meanings}
 use Rattle.dslx_meaning.specs.Network.{Elaboration, Family, Held, as_proc, channels_of_ends, child_path, children, elaborate_within, handed_over, made_chan, made_chans, made_ends, outer_chan, spawn_parametric_args, spawned, spawned_at}
 use Rattle.dslx_meaning.specs.declared.value.DslxValue.{DslxValue}
-use Rattle.dslx_meaning.specs.Rules.Mentions.{config_statement_mentions, parametric_names}
+use Rattle.dslx_meaning.specs.Rules.Mentions.{parametric_names}
 use Rattle.dslx_meaning.specs.Rules.ModuleRules.{is_reached}
 use Rattle.dslx_meaning.specs.Rules.NameRules.{local_name}
 use Rattle.dslx_meaning.specs.Rules.ProcRules.{Made, behind_ends, channel_found, channel_type, config_statements_found, depth_found, ends_found, made_at_start, made_with, proc_type_env, spawn_found, string_faults}
 use Rattle.dslx_meaning.specs.Rules.TypeEnvs.{GlobalEnv, Instance, TypeEnv}
 use Rattle.dslx_core.proofs.Lemmas.Typing.Accepted.{IsAccepted, one_of_these}
 use Rattle.dslx_core.proofs.Lemmas.Typing.Complete.{item_env}
-use Rattle.dslx_core.proofs.Lemmas.Typing.Depends.{den_parts}
 use Rattle.dslx_core.proofs.Lemmas.Typing.Sound.{all_in, none_in, none_in_three, not_broken}
 use Rattle.dslx_core.proofs.Lemmas.Typing.Typed.{list_parts, or_false, same_some}
 use Rattle.dslx_core.specs.Typing.Complete.HasValue.{AreTyped}
 use Rattle.dslx_core.specs.Typing.Typed.Complete.{IsComplete}
-use Rattle.dslx_core.specs.Typing.TypingRelations.Closed.{ends_within}
 use Rattle.dslx_total.specs.Families.Plain.{ProcsBindNoConstant}
 use Rattle.dslx_total.specs.Nets.Slashes.{has_slash}
 use Rattle.dslx_total.proofs.OnFamilies.Acts.{parts_well_typed}
-use Rattle.dslx_total.proofs.OnFamilies.Reached.{K, Listed, Within, all, most, proc_there}
+use Rattle.dslx_total.proofs.OnFamilies.Reached.{K, Listed, all}
 use Rattle.dslx_total.proofs.OnFamilies.Spawns.{proc_named, spawn_there}
 use Rattle.dslx_total.proofs.OnFamilies.There.{IsThere, well}
 use Rattle.dslx_total.proofs.OnNets.Ends.{new_name}
@@ -262,10 +260,10 @@ module _ (m : Module) (top : Option (List ℕ)) (s : IsAccepted m top) (procs : 
       some_proc : 1 ≤ length f.procs
       named : length f.procs ≤ limit → FamilyNamed own f.chans
 
-    one_named : (own : List ℕ) (made : Made) (sp : Spawn) (number : ℕ) → Within m (most m top s) (config_statement_mentions (config_statement.Spawn sp) bound) → (spawn_found context made sp).faults ≡ [] → Listed m top s (spawn_found context made sp).reached
+    one_named : (own : List ℕ) (made : Made) (sp : Spawn) (number : ℕ) → (spawn_found context made sp).faults ≡ [] → Listed m top s (spawn_found context made sp).reached
         → SpawnNamed own (spawned m known.items place own env held sp number)
-    one_named own made sp number within f r =
-        let t = spawn_there m top s procs complete typed p parametric_args (well m top s complete typed p parametric_args here) made sp bound within f r in
+    one_named own made sp number f r =
+        let t = spawn_there m top s procs complete typed p parametric_args (well m top s complete typed p parametric_args here) made sp bound f r in
         let named = proc_named m sp.target.name t.target t.is in
         let there : IsThere m top s t.target t.parametric_args = record { checked = record { named = named; among = one_of_these (record { name = t.target.name.name; parametric_args = t.parametric_args }) (all m top s) t.among }; own = t.own } in
         let given = handed_over t.target.config.ends (channels_of_ends held sp.ends) in
@@ -274,26 +272,24 @@ module _ (m : Module) (top : Option (List ℕ)) (s : IsAccepted m top) (procs : 
         subst (SpawnNamed own) (sym elaborated) (record { some_proc = some own t.target t.parametric_args given number; named = such own t.target t.parametric_args given number there })
 
     children_named : (made : Made) (ms : List ConfigStatement) (k number : ℕ) → k + length (children m known.items place path env held ms k number).procs ≤ limit
-        → Within m (most m top s) (flat_map (λ (x : ConfigStatement). config_statement_mentions x bound) ms) → (config_statements_found context made ms).faults ≡ [] → Listed m top s (config_statements_found context made ms).reached
+        → (config_statements_found context made ms).faults ≡ [] → Listed m top s (config_statements_found context made ms).reached
         → ChildrenNamed path k (children m known.items place path env held ms k number).chans
-    children_named made [] k number few within f r = record { each = λ i x e. absurd (cc); own = none_named }
-    children_named made (config_statement.Channel ch ∷ ms) k number few within f r =
+    children_named made [] k number few f r = record { each = λ i x e. absurd (cc); own = none_named }
+    children_named made (config_statement.Channel ch ∷ ms) k number few f r =
         let next = made_with context made ch in
-        let w = den_parts (ends_within m (most m top s)) m (config_statement_mentions (config_statement.Channel ch) bound) (flat_map (λ (x : ConfigStatement). config_statement_mentions x bound) ms) within in
         let a = none_in (channel_found context made ch).faults (config_statements_found context next ms).faults f in
         let b = all_in test (channel_found context made ch).reached (config_statements_found context next ms).reached r in
-        children_named next ms k number few w.1 a.1 b.1
-    children_named made (config_statement.Spawn sp ∷ ms) k number few within f r =
-        let w = den_parts (ends_within m (most m top s)) m (config_statement_mentions (config_statement.Spawn sp) bound) (flat_map (λ (x : ConfigStatement). config_statement_mentions x bound) ms) within in
+        children_named next ms k number few a.1 b.1
+    children_named made (config_statement.Spawn sp ∷ ms) k number few f r =
         let a = none_in (spawn_found context made sp).faults (config_statements_found context made ms).faults f in
         let b = all_in test (spawn_found context made sp).reached (config_statements_found context made ms).reached r in
         let first = spawned m known.items place (child_path path k) env held sp number in
         let behind = children m known.items place path env held ms (suc k) (number + length first.chans) in
-        let one = one_named (child_path path k) made sp number w.0 a.0 b.0 in
+        let one = one_named (child_path path k) made sp number a.0 b.0 in
         let both = length-append first.procs behind.procs in
         let some_one = one.some_proc in
         let own = one.named (omega (arith, few, both)) in
-        let rest = children_named made ms (suc k) (number + length first.chans) (omega (arith, few, both, some_one)) w.1 a.1 b.1 in
+        let rest = children_named made ms (suc k) (number + length first.chans) (omega (arith, few, both, some_one)) a.1 b.1 in
         let low : k < 2 ^ 64 = omega (arith, few, both, some_one, small) in
         record {
           each = each_both (IsBehindChild path k) first.chans behind.chans (λ i x e. as_child k low x.name (own.each i x e)) (λ i x e. from_next k x.name (rest.each i x e));
@@ -328,7 +324,7 @@ module _ (m : Module) (top : Option (List ℕ)) (s : IsAccepted m top) (procs : 
       let a = none_in made.faults _ (none_in outer.faults (made.faults ++ _) parts.config).1 in
       let b = (all_in test made.reached [] (all_in test outer.reached (made.reached ++ []) parts.listed).1).0 in
       let mine = own_named context path env start ms a.0 in
-      let spawned_ones = by n (all_named n) few (proc_there m top s p here.checked.named).config_statements a.0 b in
+      let spawned_ones = by n (all_named n) few a.0 b in
       record {
         each = each_both (IsBehind path) own (others n).chans (λ i x e. own_behind x.name (mine.each i x e)) (λ i x e. child_behind x.name (spawned_ones.each i x e));
         own = both_named own (others n).chans mine.own spawned_ones.own (λ c d x y e f g. apart x.name y.name (mine.each c x e) (spawned_ones.each d y f) g);
@@ -355,11 +351,11 @@ module _ (m : Module) (top : Option (List ℕ)) (s : IsAccepted m top) (procs : 
       others : ℕ → Family
       others n = children m known.items (elaborate_within m known.items n) path env held ms 0 (number + length own)
 
-      by : (n : ℕ) → ScopesNamed (elaborate_within m known.items n) → suc (length (others n).procs) ≤ limit → Within m (most m top s) (flat_map (λ (x : ConfigStatement). config_statement_mentions x (parametric_names p.parametrics)) ms)
+      by : (n : ℕ) → ScopesNamed (elaborate_within m known.items n) → suc (length (others n).procs) ≤ limit
           → (config_statements_found context start ms).faults ≡ [] → Listed m top s (config_statements_found context start ms).reached → ChildrenNamed path 0 (others n).chans
-      by zero such few within f r = subst (ChildrenNamed path 0) (sym (children_none m known.items path env held ms 0 (number + length own))) (record { each = λ i x e. absurd (cc); own = none_named })
-      by (suc n) such few within f r =
-          children_named (elaborate_within m known.items (suc n)) such (λ path p parametric_args ends number. omega arith) p parametric_args here path held start ms 0 (number + length own) (omega (arith, few)) within f r
+      by zero such few f r = subst (ChildrenNamed path 0) (sym (children_none m known.items path env held ms 0 (number + length own))) (record { each = λ i x e. absurd (cc); own = none_named })
+      by (suc n) such few f r =
+          children_named (elaborate_within m known.items (suc n)) such (λ path p parametric_args ends number. omega arith) p parametric_args here path held start ms 0 (number + length own) (omega (arith, few)) f r
 
       own_behind : (name : List ℕ) → IsOwn path start.strings name → IsBehind path name
       own_behind name h = record { tail = 47 ∷ h.text; is = h.is; starts = omega arith; slash = record { front = path; back = h.text; is = h.is } }

@@ -1,7 +1,7 @@
 -- Each end of a channel is at one proc of the network.
 use Rattle.std.proofs.Common.{◌≡◌, ◌≤◌, ◌<◌, ◌+◌, ◌&&◌, ◌==◌, ◌++◌, ℕ, zero, suc, inl, inr, Bool, true, false, if◌then◌else◌, List, [], ◌∷◌, map, length, Option, Some, arith, refl, sym, ap, subst, ◌∙◌}
 use mathlib.Core.Bool.{true≢false}
-use Rattle.std.specs.Prelude.{◌⊎◌, flat_map, slice_get, unwrap_or}
+use Rattle.std.specs.Prelude.{◌⊎◌, slice_get, unwrap_or}
 use Rattle.std.specs.List.{list_all}
 use Rattle.std.specs.Str.{bytes_eq}
 use Rattle.std.proofs.lemmas.Bool.Decides.{Decides-eqb}
@@ -22,24 +22,22 @@ use Rattle.dslx_meaning.specs.Lists.{and_then, beside, is_in}
 use Rattle.dslx_meaning.specs.Network.{Elaborated, Elaboration, Family, Held, channels_of_ends, child_path, children, elaborate_within, handed_over, made_chans, made_ends, outer_ends, spawn_parametric_args, spawned, spawned_at}
 use Rattle.dslx_meaning.specs.declared.value.DslxValue.{DslxValue}
 use Rattle.dslx_meaning.specs.Rules.CallRules.{channel_end_in}
-use Rattle.dslx_meaning.specs.Rules.Mentions.{config_statement_mentions, parametric_names}
+use Rattle.dslx_meaning.specs.Rules.Mentions.{parametric_names}
 use Rattle.dslx_meaning.specs.Rules.ModuleRules.{is_reached}
 use Rattle.dslx_meaning.specs.Rules.ItemRules.{Found}
 use Rattle.dslx_meaning.specs.Rules.ProcRules.{Made, channel_end_of, channel_found, config_statements_found, end_names, ends_found, ident_names, is_members, made_at_end, made_at_start, made_with, proc_type_env, spawn_found, times_in, unknown_ends, use_faults, used_ends}
 use Rattle.dslx_meaning.specs.Rules.TypeEnvs.{ChannelEnd, GlobalEnv, Instance, TypeEnv}
 use Rattle.dslx_core.proofs.Lemmas.Typing.Accepted.{IsAccepted, one_of_these}
 use Rattle.dslx_core.proofs.Lemmas.Typing.Complete.{item_env}
-use Rattle.dslx_core.proofs.Lemmas.Typing.Depends.{den_parts}
 use Rattle.dslx_core.proofs.Lemmas.Typing.Laws.{and_true}
 use Rattle.dslx_core.proofs.Lemmas.Typing.Sound.{all_in, none_in, passed}
 use Rattle.dslx_core.proofs.Lemmas.Typing.Typed.{none_some, same_some}
 use Rattle.dslx_core.specs.Typing.Complete.HasValue.{AreTyped}
 use Rattle.dslx_core.specs.Typing.Typed.Complete.{IsComplete}
-use Rattle.dslx_core.specs.Typing.TypingRelations.Closed.{ends_within}
 use Rattle.dslx_total.specs.Families.Plain.{ProcsBindNoConstant}
 use Rattle.dslx_total.proofs.OnConfigs.Held.{stays}
 use Rattle.dslx_total.proofs.OnFamilies.Acts.{parts_well_typed}
-use Rattle.dslx_total.proofs.OnFamilies.Reached.{K, Listed, Within, all, most, proc_there}
+use Rattle.dslx_total.proofs.OnFamilies.Reached.{K, Listed, all}
 use Rattle.dslx_total.proofs.OnFamilies.Spawns.{proc_named, spawn_there}
 use Rattle.dslx_total.proofs.OnFamilies.There.{IsThere, well}
 use Rattle.dslx_total.proofs.OnNets.Handed.{FirstOr, IsFirst, IsLater, Stands, first_or, first_scope, handed_apart, handed_back, handed_go, handed_scope, in_times, members_back, members_go, no_scope, times_behind, times_used}
@@ -211,10 +209,10 @@ module _ (m : Module) (top : Option (List ℕ)) (s : IsAccepted m top) (procs : 
     one_once : (own : List ℕ) (made : Made) (before rest : List Held) (sp : Spawn) (number : ℕ) → IsScope made.names made.channel_ends before → held ≡ before ++ rest
         → ((name : List ℕ) (x : ℕ) (d : Direction) → PairAt made.channel_ends before name x d → PairAt end.channel_ends held name x d) → highest ≤ number
         → ((name : List ℕ) → is_in name made.names ≡ true → times_in name (ident_names sp.ends) ≤ 1)
-        → Within m (most m top s) (config_statement_mentions (config_statement.Spawn sp) bound) → (spawn_found context made sp).faults ≡ [] → Listed m top s (spawn_found context made sp).reached
+        → (spawn_found context made sp).faults ≡ [] → Listed m top s (spawn_found context made sp).reached
         → UsedOnce known (spawned m known.items place own env held sp number).procs (Used (ident_names sp.ends) number (number + length (spawned m known.items place own env held sp number).chans))
-    one_once own made before rest sp number scope is on low once within f r =
-        let t = spawn_there m top s procs complete typed p parametric_args (well m top s complete typed p parametric_args here) made sp bound within f r in
+    one_once own made before rest sp number scope is on low once f r =
+        let t = spawn_there m top s procs complete typed p parametric_args (well m top s complete typed p parametric_args here) made sp bound f r in
         let named = proc_named m sp.target.name t.target t.is in
         let there : IsThere m top s t.target t.parametric_args = record { checked = record { named = named; among = one_of_these (record { name = t.target.name.name; parametric_args = t.parametric_args }) (all m top s) t.among }; own = t.own } in
         let es = t.target.config.ends in
@@ -243,20 +241,18 @@ module _ (m : Module) (top : Option (List ℕ)) (s : IsAccepted m top) (procs : 
     -- the spawns of these statements
     children_once : (made : Made) (before : List Held) (ms : List ConfigStatement) (c k number : ℕ) → IsScope made.names made.channel_ends before → AreApart made.channel_ends before c → held ≡ before ++ made_ends c ms
         → made_at_end context made ms ≡ end → highest ≤ number → ((name : List ℕ) → is_in name end.names ≡ true → times_in name (used_ends ms []) ≤ 1)
-        → Within m (most m top s) (flat_map (λ (x : ConfigStatement). config_statement_mentions x bound) ms) → (config_statements_found context made ms).faults ≡ [] → Listed m top s (config_statements_found context made ms).reached
+        → (config_statements_found context made ms).faults ≡ [] → Listed m top s (config_statements_found context made ms).reached
         → UsedOnce known (children m known.items place path env held ms k number).procs (Used (used_ends ms []) number (number + length (children m known.items place path env held ms k number).chans))
-    children_once made before [] c k number scope apart is ends low once within f r = none_used known (Used [] number (number + 0))
-    children_once made before (config_statement.Channel ch ∷ ms) c k number scope apart is ends low once within f r =
+    children_once made before [] c k number scope apart is ends low once f r = none_used known (Used [] number (number + 0))
+    children_once made before (config_statement.Channel ch ∷ ms) c k number scope apart is ends low once f r =
         let next = made_with context made ch in
-        let w = den_parts (ends_within m (most m top s)) m (config_statement_mentions (config_statement.Channel ch) bound) (flat_map (λ (x : ConfigStatement). config_statement_mentions x bound) ms) within in
         let a = none_in (channel_found context made ch).faults (config_statements_found context next ms).faults f in
         let b = all_in test (channel_found context made ch).reached (config_statements_found context next ms).reached r in
         let fresh = fresh_ends context made ch a.0 in
         let both : List Held = record { name = ch.sender.name; channel = c } ∷ record { name = ch.receiver.name; channel = c } ∷ [] in
         children_once next (before ++ both) ms (suc c) k number (scope_more context made before ch c scope fresh.0 fresh.1) (apart_more context made before ch c scope fresh.0 fresh.1 apart)
-        (is ∙ sym (append_assoc before both (made_ends (suc c) ms))) ends low once w.1 a.1 b.1
-    children_once made before (config_statement.Spawn sp ∷ ms) c k number scope apart is ends low once within f r =
-        let w = den_parts (ends_within m (most m top s)) m (config_statement_mentions (config_statement.Spawn sp) bound) (flat_map (λ (x : ConfigStatement). config_statement_mentions x bound) ms) within in
+        (is ∙ sym (append_assoc before both (made_ends (suc c) ms))) ends low once a.1 b.1
+    children_once made before (config_statement.Spawn sp ∷ ms) c k number scope apart is ends low once f r =
         let a = none_in (spawn_found context made sp).faults (config_statements_found context made ms).faults f in
         let b = all_in test (spawn_found context made sp).reached (config_statements_found context made ms).reached r in
         let first = spawned m known.items place (child_path path k) env held sp number in
@@ -268,8 +264,8 @@ module _ (m : Module) (top : Option (List ℕ)) (s : IsAccepted m top) (procs : 
         let stay : (name : List ℕ) → is_in name made.names ≡ true → is_in name end.names ≡ true = λ name q. subst (λ (mm : Made). is_in name mm.names ≡ true) ends (stays name context made ms q) in
         let times : (name : List ℕ) → is_in name end.names ≡ true → times_in name (ident_names sp.ends) + times_in name (used_ends ms []) ≤ 1 =
         λ name q. fewer name (once name q) in
-        let one = one_once (child_path path k) made before (made_ends c ms) sp number scope is on low (λ name q. part_first name (times name (stay name q))) w.0 a.0 b.0 in
-        let rest = children_once made before ms c (suc k) middle scope apart is ends (omega (arith, low)) (λ name q. part_second name (times name q)) w.1 a.1 b.1 in
+        let one = one_once (child_path path k) made before (made_ends c ms) sp number scope is on low (λ name q. part_first name (times name (stay name q))) a.0 b.0 in
+        let rest = children_once made before ms c (suc k) middle scope apart is ends (omega (arith, low)) (λ name q. part_second name (times name q)) a.1 b.1 in
         let high = number + length (first.chans ++ behind.chans) in
         let same : middle + length behind.chans ≡ high = let both = length-append first.chans behind.chans in omega (arith, both) in
         let more : middle ≤ high = omega (arith, same) in
@@ -314,7 +310,7 @@ module _ (m : Module) (top : Option (List ℕ)) (s : IsAccepted m top) (procs : 
       let go = members_go context end p.members p.config.result u.0 q.1 in
       let back = members_back end held [] held (sym (append-nil held)) at.scope context p.members p.config.result go in
       let rest = children_once place (all_once n) p parametric_args here path held end at.scope highest at.apart start ends ms number 0 middle scope apart refl refl low (λ name e. let few = once name e in omega (arith, few))
-      (proc_there m top s p here.checked.named).config_statements a.0 b in
+      a.0 b in
       let high = number + length (own ++ others.chans) in
       let same : middle + length others.chans ≡ high = let both = length-append own others.chans in omega (arith, both) in
       let less : number ≤ middle = omega arith in

@@ -1,6 +1,6 @@
 -- The procs of a network with which nothing is wrong: each member stands for a channel of its words that goes its way.
 use Rattle.std.proofs.Common.{◌≡◌, ◌+◌, ◌++◌, ◌==◌, ◌&&◌, ℕ, zero, suc, Bool, List, [], ◌∷◌, map, length, Option, Some, arith, refl, sym, ap, subst, ◌∙◌}
-use Rattle.std.specs.Prelude.{flat_map, slice_get, unwrap_or}
+use Rattle.std.specs.Prelude.{slice_get, unwrap_or}
 use Rattle.std.specs.List.{list_all}
 use Rattle.std.proofs.lemmas.Bool.Decides.{Decides-eqb}
 use Rattle.std.proofs.lemmas.List.{append_assoc}
@@ -24,7 +24,7 @@ use Rattle.dslx_meaning.specs.Types.{plain_type}
 use Rattle.dslx_meaning.specs.declared.ty.DslxType.{DslxType}
 use Rattle.dslx_meaning.specs.declared.value.DslxValue.{DslxValue}
 use Rattle.dslx_meaning.specs.Rules.CallRules.{channel_end_in}
-use Rattle.dslx_meaning.specs.Rules.Mentions.{arg_if, config_statement_mentions, ends_mentions, mentioned_in_type, parametric_names}
+use Rattle.dslx_meaning.specs.Rules.Mentions.{ends_mentions, mentioned_in_type, parametric_names}
 use Rattle.dslx_meaning.specs.Rules.ModuleRules.{is_reached}
 use Rattle.dslx_meaning.specs.Rules.NameRules.{local_name}
 use Rattle.dslx_meaning.specs.Rules.ItemRules.{parametrics_found}
@@ -32,7 +32,7 @@ use Rattle.dslx_meaning.specs.Rules.ProcRules.{Made, behind_ends, channel_end_of
 use Rattle.dslx_meaning.specs.Rules.TypeEnvs.{ChannelEnd, GlobalEnv, Instance, TypeEnv}
 use Rattle.dslx_core.proofs.Lemmas.Typing.Accepted.{IsAccepted, one_of_these}
 use Rattle.dslx_core.proofs.Lemmas.Typing.Complete.{item_env}
-use Rattle.dslx_core.proofs.Lemmas.Typing.Depends.{den_parts, no_proc_in_type}
+use Rattle.dslx_core.proofs.Lemmas.Typing.Depends.{no_proc_in_type}
 use Rattle.dslx_core.proofs.Lemmas.Typing.Laws.{and_true}
 use Rattle.dslx_core.proofs.Lemmas.Typing.Sound.{all_in, none_in, none_in_three, passed}
 use Rattle.dslx_core.proofs.Lemmas.Typing.TypingRelations.{found_ends, written_type_reaches}
@@ -40,11 +40,10 @@ use Rattle.dslx_core.specs.Typing.Complete.HasValue.{AreTyped}
 use Rattle.dslx_core.specs.Typing.Typed.Complete.{IsComplete}
 use Rattle.dslx_core.specs.Typing.Typed.Declared.{IsDeclared}
 use Rattle.dslx_core.specs.Typing.Typed.WellTyped.{IsWellTypedEnv}
-use Rattle.dslx_core.specs.Typing.TypingRelations.Closed.{ends_within}
 use Rattle.dslx_total.specs.Expressions.Beside.{NamesAreFull, NamesHaveWidths}
 use Rattle.dslx_total.specs.Families.Plain.{ProcsBindNoConstant}
 use Rattle.dslx_total.proofs.OnFamilies.Acts.{parts_well_typed}
-use Rattle.dslx_total.proofs.OnFamilies.Reached.{K, Listed, Passing, Within, all, all_sound, ends_none, most, proc_there, reaching}
+use Rattle.dslx_total.proofs.OnFamilies.Reached.{K, Listed, Passing, all, all_sound, ends_none, reaching}
 use Rattle.dslx_total.proofs.OnFamilies.Spawns.{proc_named, spawn_there, well_behind}
 use Rattle.dslx_total.proofs.OnFamilies.There.{IsThere, well}
 use Rattle.dslx_total.proofs.OnNets.Ends.{EachHasWord, EndStands, EndsStand, GoesThere, each_has_word, first_stands, given_ends_stand, made_stands, members_stand, none_stand}
@@ -157,7 +156,7 @@ module _ (m : Module) (top : Option (List ℕ)) (s : IsAccepted m top) (procs : 
       let bound = parametric_names p.parametrics in
       let f = (none_in outer.faults (made.faults ++ _) parts.config).0 in
       let r = (all_in test outer.reached (made.reached ++ []) parts.listed).0 in
-      let named = found_ends (Passing m top s) context [] p.config.ends bound (reaching m top s context.owner (ends_mentions p.config.ends bound) (ends_none p.config.ends bound) (proc_there m top s p here.checked.named).ends) in
+      let named = found_ends (Passing m top s) context [] p.config.ends bound (reaching m top s context.owner (ends_mentions p.config.ends bound) (ends_none p.config.ends bound)) in
       each_has_word context (item_env known (parametric_args_bound [] p.parametrics parametric_args)) (well m top s complete typed p parametric_args here) names full [] p.config.ends f (all_sound m top s outer.reached named r)
 
   -- so have its members
@@ -184,10 +183,10 @@ module _ (m : Module) (top : Option (List ℕ)) (s : IsAccepted m top) (procs : 
     sees = well m top s complete typed p parametric_args here
 
     one_stands : (own : List ℕ) (made : Made) (before rest : List Held) (sp : Spawn) (number : ℕ) → EndsStand known chans made.names made.channel_ends before → held ≡ before ++ rest
-        → Within m (most m top s) (config_statement_mentions (config_statement.Spawn sp) bound) → (spawn_found context made sp).faults ≡ [] → Listed m top s (spawn_found context made sp).reached
+        → (spawn_found context made sp).faults ≡ [] → Listed m top s (spawn_found context made sp).reached
         → StandFrom chans number (spawned m known.items place own env held sp number).chans → FamilyStands (spawned m known.items place own env held sp number)
-    one_stands own made before rest sp number h is within f r stand =
-        let t = spawn_there m top s procs complete typed p parametric_args sees made sp bound within f r in
+    one_stands own made before rest sp number h is f r stand =
+        let t = spawn_there m top s procs complete typed p parametric_args sees made sp bound f r in
         let named = proc_named m sp.target.name t.target t.is in
         let there : IsThere m top s t.target t.parametric_args = record { checked = record { named = named; among = one_of_these (record { name = t.target.name.name; parametric_args = t.parametric_args }) (all m top s) t.among }; own = t.own } in
         let so_far = parametric_args_bound [] t.target.parametrics t.parametric_args in
@@ -214,9 +213,9 @@ module _ (m : Module) (top : Option (List ℕ)) (s : IsAccepted m top) (procs : 
       fits : ChanFits (made_chan path env c)
       ends : EndsStand known chans (made_with context made c).names (made_with context made c).channel_ends (before ++ record { name = c.sender.name; channel = number } ∷ record { name = c.receiver.name; channel = number } ∷ [])
 
-    one_made : (made : Made) (before : List Held) (c : Channel) (number : ℕ) → EndsStand known chans made.names made.channel_ends before → Within m (most m top s) (config_statement_mentions (config_statement.Channel c) bound)
+    one_made : (made : Made) (before : List Held) (c : Channel) (number : ℕ) → EndsStand known chans made.names made.channel_ends before
         → (channel_found context made c).faults ≡ [] → Listed m top s (channel_found context made c).reached → slice_get chans number ≡ Some (made_chan path env c) → ChannelStands made before c number
-    one_made made before c number h within f r at =
+    one_made made before c number h f r at =
         let behind = behind_ends context made in
         let word = channel_type behind c.word in
         let depth = depth_found behind c.depth in
@@ -225,33 +224,30 @@ module _ (m : Module) (top : Option (List ℕ)) (s : IsAccepted m top) (procs : 
         let strings = string_faults made.strings c.name in
         let a = none_in ((sender ++ receiver) ++ strings) (word.faults ++ depth.faults) f in
         let b = none_in_three sender receiver strings a.0 in
-        let q = den_parts (ends_within m (most m top s)) m (mentioned_in_type c.word bound) (arg_if c.depth bound) within in
-        let reached = all_sound m top s word.reached (written_type_reaches (Passing m top s) c.word bound behind (reaching m top s behind.owner (mentioned_in_type c.word bound) (no_proc_in_type c.word bound) q.0)) (all_in test word.reached depth.reached r).0 in
+        let reached = all_sound m top s word.reached (written_type_reaches (Passing m top s) c.word bound behind (reaching m top s behind.owner (mentioned_in_type c.word bound) (no_proc_in_type c.word bound))) (all_in test word.reached depth.reached r).0 in
         let w = word_is behind env (well_behind context env made sees) names full c.word (none_in word.faults depth.faults a.1).0 reached in
         record { fits = record { word = w.word; ty = ap plain_or_unit w.means; fits = w.fits }; ends = made_stands known chans context env path refl made before c number h w b.0 b.1 at }
 
     statements_stand : (made : Made) (before : List Held) (ms : List ConfigStatement) (c k number : ℕ) → EndsStand known chans made.names made.channel_ends before → held ≡ before ++ made_ends c ms
         → StandFrom chans c (made_chans path env ms) → StandFrom chans number (children m known.items place path env held ms k number).chans
-        → Within m (most m top s) (flat_map (λ (x : ConfigStatement). config_statement_mentions x bound) ms) → (config_statements_found context made ms).faults ≡ [] → Listed m top s (config_statements_found context made ms).reached
+        → (config_statements_found context made ms).faults ≡ [] → Listed m top s (config_statements_found context made ms).reached
         → StatementsStand made ms k number
-    statements_stand made before [] c k number h is own others within f r = record { before = before; is = is; ends = h; own = tt; each = record { each_proc = tt; each_chan = tt } }
-    statements_stand made before (config_statement.Channel ch ∷ ms) c k number h is own others within f r =
+    statements_stand made before [] c k number h is own others f r = record { before = before; is = is; ends = h; own = tt; each = record { each_proc = tt; each_chan = tt } }
+    statements_stand made before (config_statement.Channel ch ∷ ms) c k number h is own others f r =
         let next = made_with context made ch in
-        let w = den_parts (ends_within m (most m top s)) m (config_statement_mentions (config_statement.Channel ch) bound) (flat_map (λ (x : ConfigStatement). config_statement_mentions x bound) ms) within in
         let a = none_in (channel_found context made ch).faults (config_statements_found context next ms).faults f in
         let b = all_in test (channel_found context made ch).reached (config_statements_found context next ms).reached r in
         let both : List Held = record { name = ch.sender.name; channel = c } ∷ record { name = ch.receiver.name; channel = c } ∷ [] in
-        let first = one_made made before ch c h w.0 a.0 b.0 (stand_head chans c (made_chan path env ch) (made_chans path env ms) own) in
-        let rest = statements_stand next (before ++ both) ms (suc c) k number first.ends (is ∙ sym (append_assoc before both (made_ends (suc c) ms))) (stand_tail chans c (made_chan path env ch) (made_chans path env ms) own) others w.1 a.1 b.1 in
+        let first = one_made made before ch c h a.0 b.0 (stand_head chans c (made_chan path env ch) (made_chans path env ms) own) in
+        let rest = statements_stand next (before ++ both) ms (suc c) k number first.ends (is ∙ sym (append_assoc before both (made_ends (suc c) ms))) (stand_tail chans c (made_chan path env ch) (made_chans path env ms) own) others a.1 b.1 in
         record { before = rest.before; is = rest.is; ends = rest.ends; own = (first.fits, rest.own); each = rest.each }
-    statements_stand made before (config_statement.Spawn sp ∷ ms) c k number h is own others within f r =
-        let w = den_parts (ends_within m (most m top s)) m (config_statement_mentions (config_statement.Spawn sp) bound) (flat_map (λ (x : ConfigStatement). config_statement_mentions x bound) ms) within in
+    statements_stand made before (config_statement.Spawn sp ∷ ms) c k number h is own others f r =
         let a = none_in (spawn_found context made sp).faults (config_statements_found context made ms).faults f in
         let b = all_in test (spawn_found context made sp).reached (config_statements_found context made ms).reached r in
         let first = spawned m known.items place (child_path path k) env held sp number in
         let behind = children m known.items place path env held ms (suc k) (number + length first.chans) in
-        let one = one_stands (child_path path k) made before (made_ends c ms) sp number h is w.0 a.0 b.0 (stand_first chans number first.chans behind.chans others) in
-        let rest = statements_stand made before ms c (suc k) (number + length first.chans) h is own (stand_second chans number first.chans behind.chans others) w.1 a.1 b.1 in
+        let one = one_stands (child_path path k) made before (made_ends c ms) sp number h is a.0 b.0 (stand_first chans number first.chans behind.chans others) in
+        let rest = statements_stand made before ms c (suc k) (number + length first.chans) h is own (stand_second chans number first.chans behind.chans others) a.1 b.1 in
         let more = rest.each in
         record {
           before = rest.before;
@@ -282,7 +278,7 @@ module _ (m : Module) (top : Option (List ℕ)) (s : IsAccepted m top) (procs : 
       let place = elaborate_within m known.items n in
       let others = children m known.items place path env held p.config.config_statements 0 (number + length own) in
       let st = statements_stand place (all_stand n) p parametric_args here path held start ends p.config.config_statements number 0 (number + length own) h refl (stand_first chans number own others.chans stand) (stand_second chans number own others.chans stand)
-      (proc_there m top s p here.checked.named).config_statements a.0 b in
+      a.0 b in
       let once = list_all (λ name. times_in name (used_ends p.config.config_statements p.config.result) == 1) end.names in
       let fits = (and_true once (is_members context p.members p.config.result end) (passed (once && is_members context p.members p.config.result end) 30 p.config.span u.1)).1 in
       let members = members_stand known chans end st.before [] st.ends context env refl p.members p.config.result (members_have_words p parametric_args here) u.0 fits in

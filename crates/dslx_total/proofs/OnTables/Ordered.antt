@@ -1,4 +1,4 @@
--- Instances of functions by how long the chains of items are that begin with them: each reaches those with shorter chains alone.
+-- Instances of functions by the ranks of their items: each reaches those of lower ranks alone.
 use Rattle.std.proofs.Common.{◌*◌, ◌≡◌, ◌≤◌, ◌&&◌, ◌++◌, ℕ, zero, suc, length, Bool, true, false, not, List, [], Option, Some, None, arith, refl, sym, ap, ◌∙◌}
 use mathlib.Core.Bool.{true≢false}
 use Rattle.std.specs.List.{list_all}
@@ -14,9 +14,9 @@ use Rattle.dslx_meaning.specs.Rules.Mentions.{AsFunction, is_of_use}
 use Rattle.dslx_meaning.specs.Rules.ModuleRules.{found_of_instance, found_of_item, instances_of, is_reached, globals_of}
 use Rattle.dslx_core.proofs.Lemmas.Typing.Laws.{and_true}
 use Rattle.dslx_core.specs.Typing.Typed.Numbers.{AllOwn}
-use Rattle.dslx_core.specs.Typing.TypingRelations.Closed.{IsOneOf, ends_within}
-use Rattle.dslx_core.proofs.Lemmas.Typing.TypingRelations.{function_is, instances_reach, longer, whole_is}
-use Rattle.dslx_core.proofs.Lemmas.Typing.Depends.{every_item_passes, is_proc_item, passes, passes_closed, passes_next}
+use Rattle.dslx_core.specs.Typing.TypingRelations.Closed.{IsOneOf}
+use Rattle.dslx_core.proofs.Lemmas.Typing.TypingRelations.{function_is, whole_is}
+use Rattle.dslx_core.proofs.Lemmas.Typing.Depends.{every_item_settles, reached_below, settles, settles_longer}
 use Rattle.dslx_core.proofs.Lemmas.Typing.Accepted.{IsAccepted, all_empty, all_so, instance_faults, one_of_these, sound}
 use Rattle.dslx_core.specs.Lowering.Functions.{Instantiated}
 use Rattle.dslx_total.specs.Expressions.InstanceLists.{AreThere, EachReachesThoseBefore, ReachesThese, is_among}
@@ -34,14 +34,14 @@ module _ (m : Module) (top : Option (List ℕ)) (s : IsAccepted m top) where
   abbrev is_function : Instance → Bool
   is_function i = is_of_use AsFunction (item_named i.name m.items) && are_own K.items.type_named i.parametric_args
 
-  -- chains from it have one item more, and no fewer
+  -- of this rank, and of no lower one
   abbrev is_next : ℕ → Instance → Bool
-  is_next k i = passes m (suc k) i.name && not (passes m k i.name)
+  is_next k i = settles m (suc k) i.name && not (settles m k i.name)
 
   abbrev due : ℕ → Instance → Bool
   due k i = is_next k i && is_function i
 
-  -- those with the shortest chains first
+  -- those of the lowest ranks first
   abbrev pub in_order : ℕ → List Instantiated
   in_order zero = []
   in_order (suc k) = in_order k ++ chosen (due k) all
@@ -57,18 +57,18 @@ module _ (m : Module) (top : Option (List ℕ)) (s : IsAccepted m top) where
   is_function_there : (i : Instance) (f : Function) → item_named i.name m.items ≡ Some (d.Function f) → AllOwn K.items.type_named i.parametric_args → is_function i ≡ true
   is_function_there i f e own = λ t. is_of_use AsFunction (e t) && all_own_pass K.items.type_named i.parametric_args own t
 
-  stands : (k : ℕ) (i : Instance) → IsOneOf i all → is_function i ≡ true → passes m k i.name ≡ true → is_among (in_order k) i ≡ true
+  stands : (k : ℕ) (i : Instance) → IsOneOf i all → is_function i ≡ true → settles m k i.name ≡ true → is_among (in_order k) i ≡ true
   stands zero i one e p = absurd (true≢false (sym p))
-  stands (suc k) i one e p = by_shorter (passes m k i.name) refl (stands k i one e)
+  stands (suc k) i one e p = by_shorter (settles m k i.name) refl (stands k i one e)
     where
-      by_shorter : (b : Bool) → passes m k i.name ≡ b → (passes m k i.name ≡ true → is_among (in_order k) i ≡ true) → is_among (in_order k ++ chosen (due k) all) i ≡ true
+      by_shorter : (b : Bool) → settles m k i.name ≡ b → (settles m k i.name ≡ true → is_among (in_order k) i ≡ true) → is_among (in_order k ++ chosen (due k) all) i ≡ true
       by_shorter true q rest = among_first i (in_order k) (chosen (due k) all) (rest q)
       by_shorter false q rest = among_second i (in_order k) (chosen (due k) all) (chosen_among (due k) i all one (λ t. (p t && not (q t)) && e t))
 
   pub functions_stand : AreThere (λ i. is_reached i all) K (in_order (length m.items))
   functions_stand i f e own r =
       let named = named_function i f e in
-      stands (length m.items) i (one_of_these i all r) (is_function_there i f named own) (every_item_passes m s.free i.name (d.Function f) named refl)
+      stands (length m.items) i (one_of_these i all r) (is_function_there i f named own) (every_item_settles m i.name (d.Function f) named refl)
 
   -- ---- what each reaches
 
@@ -88,12 +88,11 @@ module _ (m : Module) (top : Option (List ℕ)) (s : IsAccepted m top) where
   reaches : (k : ℕ) → suc k ≤ length m.items → (i : Instance) → IsOneOf i all → due k i ≡ true → ReachesThese K (in_order k) (as_named i)
   reaches k l i one e =
       let a = and_true (is_next k i) (is_function i) e in
-      let b = and_true (passes m (suc k) i.name) (not (passes m k i.name)) a.0 in
+      let b = and_true (settles m (suc k) i.name) (not (settles m k i.name)) a.0 in
       let c = and_true (is_of_use AsFunction (item_named i.name m.items)) (are_own K.items.type_named i.parametric_args) a.1 in
       let f = function_there i c.0 in
       let seen : found_of_instance K i ≡ (function_seen K f.0 i.parametric_args).found = ap (found_of_item K i.parametric_args) (known_item i.name ∙ f.1) in
-      let mentions = (passes_next m k i.name b.0).0 in
-      let named = instances_reach (passes m k) m (passes_closed m k) (2 * length m.items) i mentions in
+      let named = reached_below m k (2 * length m.items) i b.0 in
       let shorter : k ≤ length m.items = omega (arith, l) in
       record {
         function = f.0;
@@ -102,16 +101,16 @@ module _ (m : Module) (top : Option (List ℕ)) (s : IsAccepted m top) where
         here = here;
         clean = record {
           faults = ap (λ (x : Found). x.faults) (sym seen) ∙ instance_faults K i all one (all_empty m top s).1;
-          reached = ap (λ (x : Found). list_all here x.reached) (sym seen) ∙ all_so here (passes m k) (found_of_instance K i).reached named (λ j r p t. s.among i j one r t && p t);
+          reached = ap (λ (x : Found). list_all here x.reached) (sym seen) ∙ all_so here (settles m k) (found_of_instance K i).reached named (λ j r p t. s.among i j one r t && p t);
         };
-        sound = λ j h. let q = and_true (is_reached j all) (passes m k j.name) h in sound m top s k shorter j (one_of_these j all q.0) q.1;
+        sound = λ j h. let q = and_true (is_reached j all) (settles m k j.name) h in sound m top s k shorter j (one_of_these j all q.0) q.1;
         there = λ j g n own h.
-            let q = and_true (is_reached j all) (passes m k j.name) h in
+            let q = and_true (is_reached j all) (settles m k j.name) h in
             stands k j (one_of_these j all q.0) (is_function_there j g (named_function j g n) own) q.1;
       }
     where
       here : Instance → Bool
-      here j = is_reached j all && passes m k j.name
+      here j = is_reached j all && settles m k j.name
 
   pub each_reaches : (k : ℕ) → k ≤ length m.items → EachReachesThoseBefore K [] (in_order k)
   each_reaches zero l = tt
@@ -119,23 +118,23 @@ module _ (m : Module) (top : Option (List ℕ)) (s : IsAccepted m top) where
 
   -- ---- how many they are
 
-  apart : (k : ℕ) (i : Instance) → AreApart (λ (j : Instance). passes m k j.name) (due k) (λ (j : Instance). passes m (suc k) j.name) i
+  apart : (k : ℕ) (i : Instance) → AreApart (λ (j : Instance). settles m k j.name) (due k) (λ (j : Instance). settles m (suc k) j.name) i
   apart k i = record {
-    first = λ p. let q = and_true (ends_within m k i.name) (not (is_proc_item (item_named i.name m.items))) p in (λ t. longer m k i.name q.0 t && q.1 t);
-    second = λ e. (and_true (passes m (suc k) i.name) (not (passes m k i.name)) (and_true (is_next k i) (is_function i) e).0).0;
-    apart = λ p e. true≢false (sym (and_true (passes m (suc k) i.name) (not (passes m k i.name)) (and_true (is_next k i) (is_function i) e).0).1 ∙ ap not p);
+    first = settles_longer m k i.name;
+    second = λ e. (and_true (settles m (suc k) i.name) (not (settles m k i.name)) (and_true (is_next k i) (is_function i) e).0).0;
+    apart = λ p e. true≢false (sym (and_true (settles m (suc k) i.name) (not (settles m k i.name)) (and_true (is_next k i) (is_function i) e).0).1 ∙ ap not p);
   }
 
-  no_more_than : (k : ℕ) → length (in_order k) ≤ length (chosen (λ (i : Instance). passes m k i.name) all)
+  no_more_than : (k : ℕ) → length (in_order k) ≤ length (chosen (λ (i : Instance). settles m k i.name) all)
   no_more_than zero = omega arith
   no_more_than (suc k) =
       let shorter = no_more_than k in
-      let one = both_chosen (λ (i : Instance). passes m k i.name) (due k) (λ (i : Instance). passes m (suc k) i.name) (apart k) all in
+      let one = both_chosen (λ (i : Instance). settles m k i.name) (due k) (λ (i : Instance). settles m (suc k) i.name) (apart k) all in
       let both = length-append (in_order k) (chosen (due k) all) in
       omega (arith, shorter, one, both)
 
   pub few_in_order : length (in_order (length m.items)) ≤ length all
   few_in_order =
       let passing = no_more_than (length m.items) in
-      let rest = no_more (λ (i : Instance). passes m (length m.items) i.name) all in
+      let rest = no_more (λ (i : Instance). settles m (length m.items) i.name) all in
       omega (arith, passing, rest)

@@ -13,13 +13,12 @@ use Rattle.dslx_meaning.specs.Rules.ConstantRules.{is_empty}
 use Rattle.dslx_meaning.specs.Rules.TypeEnvs.{Instance, GlobalEnv, same_instance}
 use Rattle.dslx_meaning.specs.Rules.Mentions.{mentions_of}
 use Rattle.dslx_meaning.specs.Rules.ModuleRules.{faults_of, found_of_instance, instance_limit, instances_faults, instances_of, is_reached, item_found, items_found, globals_of, outside_instances, top_faults, top_found}
-use Rattle.dslx_core.specs.Typing.Laws.Recursion.{HasNoCycle}
 use Rattle.dslx_core.proofs.Lemmas.Typing.Typed.{none_some, same_some}
 use Rattle.dslx_core.specs.Typing.TypingRelations.Closed.{IsOneOf, ReachOneAnother}
 use Rattle.dslx_core.specs.Typing.TypingRelations.Reached.{AllNamed}
-use Rattle.dslx_core.proofs.Lemmas.Typing.TypingRelations.{in_first, in_second, instances_reach, items_reach}
+use Rattle.dslx_core.proofs.Lemmas.Typing.TypingRelations.{in_first, in_second, items_reach}
 use Rattle.dslx_core.specs.Typing.Depends.Settled.{BindsNoConstant}
-use Rattle.dslx_core.proofs.Lemmas.Typing.Depends.{every_item_passes, is_proc_item, passes, passes_closed, passes_next, stage}
+use Rattle.dslx_core.proofs.Lemmas.Typing.Depends.{every_item_settles, is_proc_item, ranks_settle, reached_below, settles, settles_closed}
 use Rattle.dslx_core.specs.Typing.Complete.HasValue.{IsWellTypedFound}
 use Rattle.dslx_core.specs.Typing.GlobalEnv.WellTypedParts.{EachItemWellTyped}
 use Rattle.dslx_core.proofs.OnTyping.OnAccepted.Namesakes.{own_faults}
@@ -75,7 +74,6 @@ instance_faults known i (x ∷ xs) (inr h) e = instance_faults known i xs h (bot
 -- ---- a text without faults
 
 pub record IsAccepted (m : Module) (top : Option (List ℕ)) : Type 0 where
-  pub free : HasNoCycle m
   pub plain : BindsNoConstant m
   pub faults : faults_of m top ≡ []
   pub among : ReachOneAnother (globals_of m) (instances_of m top)
@@ -100,14 +98,13 @@ module _ (m : Module) (top : Option (List ℕ)) (s : IsAccepted m top) where
       let rest = both_empty own ((items_found K m.items).faults ++ (top_found K (top_proc m top)).faults) all_empty.0 in
       (both_empty (items_found K m.items).faults (top_found K (top_proc m top)).faults rest.1).0
 
-  -- by chains of so many items, an instance that is checked is sound
-  pub sound : (k : ℕ) → k ≤ length m.items → (i : Instance) → IsOneOf i instances → passes m k i.name ≡ true → K.is_sound i ≡ true
+  -- an instance that is checked is sound, whatever its item's rank
+  pub sound : (k : ℕ) → k ≤ length m.items → (i : Instance) → IsOneOf i instances → settles m k i.name ≡ true → K.is_sound i ≡ true
   sound zero l i one p = absurd (true≢false (sym p))
   sound (suc k) l i one p =
-      let mentions = (passes_next m k i.name p).0 in
-      let named = instances_reach (passes m k) m (passes_closed m k) (2 * length m.items) i mentions in
-      let reached = all_so K.is_sound (passes m k) (found_of_instance K i).reached named (λ j r q. sound k (omega (arith, l)) j (one_of_these j instances (s.among i j one r)) q) in
-      let settled = (stage m s.plain (suc k) (2 * length m.items) (suc (2 * length m.items)) (omega (arith, l)) (omega (arith, l))).known.sound i p in
+      let named = reached_below m k (2 * length m.items) i p in
+      let reached = all_so K.is_sound (settles m k) (found_of_instance K i).reached named (λ j r q. sound k (omega (arith, l)) j (one_of_these j instances (s.among i j one r)) q) in
+      let settled = (ranks_settle m s.plain (suc k) (2 * length m.items) (suc (2 * length m.items)) (omega (arith, l)) (omega (arith, l))).known.sound i p in
       settled ∙ (λ t. is_empty (instance_faults K i instances one all_empty.1 t) && reached t)
 
   pub outside : (i : Instance) → IsOneOf i (outside_instances m top).reached → IsOneOf i instances
@@ -116,9 +113,9 @@ module _ (m : Module) (top : Option (List ℕ)) (s : IsAccepted m top) where
   -- an item that is no proc
   well_typed_item : (name : List ℕ) (x : Definition) → item_named name m.items ≡ Some x → is_proc_item (Some x) ≡ false → IsWellTypedFound K (item_found K x)
   well_typed_item name x e other =
-      let P = passes m (length m.items) in
-      let closed = passes_closed m (length m.items) in
-      let mentions = (λ t. list_all P (mentions_of m (sym e t))) ∙ closed name (every_item_passes m s.free name x e other) in
+      let P = settles m (length m.items) in
+      let closed = settles_closed m (length m.items) in
+      let mentions = (λ t. list_all P (mentions_of m (sym e t))) ∙ closed name (every_item_settles m name x e other) in
       record {
         faults = item_faults K name x m.items e items_empty;
         reached = all_so K.is_sound P (item_found K x).reached (items_reach P m closed (2 * length m.items) x mentions)

@@ -71,7 +71,7 @@ pattern_use (Some (d.Struct s)) e = refl
 pattern_use (Some (d.Enum n)) e = refl
 pattern_use None e = refl
 
-kind_is : (m : Module) (n : ℕ) (name : List ℕ) → (globals_within m n).items.is_constant name ≡ is_constant_item (item_named name m.items)
+pub kind_is : (m : Module) (n : ℕ) (name : List ℕ) → (globals_within m n).items.is_constant name ≡ is_constant_item (item_named name m.items)
 kind_is m zero name = refl
 kind_is m (suc n) name = λ i. is_constant_item (item_named name (whole_is m n i).items)
 
@@ -107,15 +107,16 @@ abbrev Covers : List (List ℕ) → List Given → Type 0
 Covers bound given = (name : List ℕ) → is_in name bound ≡ false → given_in name given ≡ None
 
 -- and of what is given and what isn't known
-pub stands_where : (m : Module) (n : ℕ) (owner : List ℕ) (bound : List (List ℕ)) (given : List Given) (unknown : List (List ℕ)) → p.Covers bound given unknown → IsBehindNames (uses_freely m owner) bound (env_behind (globals_within m n) owner given unknown)
-stands_where m n owner bound given unknown covers = record {
-  free = λ u name e. not_both (is_of_use u (item_named name m.items)) (is_cyclic m owner name) (sym (cyclic_is m n owner name) ∙ e);
-  binders = λ name e. not_first (is_of_use AsPattern (item_named name m.items)) (is_cyclic m owner name) (pattern_use (item_named name m.items) (sym (kind_is m n name) ∙ e));
+pub stands_where : (m : Module) (known : GlobalEnv) (owner : List ℕ) (bound : List (List ℕ)) (given : List Given) (unknown : List (List ℕ)) → ((name : List ℕ) → known.items.is_constant name ≡ is_constant_item (item_named name m.items))
+    → ((owner name : List ℕ) → known.is_cyclic owner name ≡ is_cyclic m owner name) → p.Covers bound given unknown → IsBehindNames (uses_freely m owner) bound (env_behind known owner given unknown)
+stands_where m known owner bound given unknown kinds cyclic covers = record {
+  free = λ u name e. not_both (is_of_use u (item_named name m.items)) (is_cyclic m owner name) (sym (cyclic owner name) ∙ e);
+  binders = λ name e. not_first (is_of_use AsPattern (item_named name m.items)) (is_cyclic m owner name) (pattern_use (item_named name m.items) (sym (kinds name) ∙ e));
   unbound = λ name q. let c = covers name q in record { in_locals = refl; in_ends = refl; in_given = c.0; in_unknown = c.1 };
 }
 
 pub stands : (m : Module) (n : ℕ) (owner : List ℕ) (bound : List (List ℕ)) (given : List Given) → Covers bound given → IsBehindNames (uses_freely m owner) bound (item_type_env (globals_within m n) owner given)
-stands m n owner bound given covers = stands_where m n owner bound given [] (λ name q. (covers name q, refl))
+stands m n owner bound given covers = stands_where m (globals_within m n) owner bound given [] (kind_is m n) (cyclic_is m n) (λ name q. (covers name q, refl))
 
 pub one_given : (bound : List (List ℕ)) (so_far : List Given) (p : Parametric) (v : Option DslxValue) → Covers bound so_far → Covers (p.name.name ∷ bound) (bound_with so_far p v)
 one_given bound so_far p v covers name q = by_name (bytes_eq name p.name.name) refl q v

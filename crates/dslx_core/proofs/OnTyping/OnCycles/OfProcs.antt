@@ -52,7 +52,7 @@ mentions_no_proc : (m : Module) (o : Option Definition) → is_proc_item o ≡ f
 mentions_no_proc m None e name i = absurd (true≢false (sym i))
 mentions_no_proc m (Some x) e name i = none_is_proc m (definition_mentions x) (definition_none x e) name i
 
-reaches_no_proc : (m : Module) (n : ℕ) (a b : List ℕ) → is_proc_item (item_named a m.items) ≡ false → reaches_within m n a b ≡ true → is_proc_item (item_named b m.items) ≡ false
+pub reaches_no_proc : (m : Module) (n : ℕ) (a b : List ℕ) → is_proc_item (item_named a m.items) ≡ false → reaches_within m n a b ≡ true → is_proc_item (item_named b m.items) ≡ false
 reaches_no_proc m zero a b e r = absurd (true≢false (sym r))
 reaches_no_proc m (suc n) a b e r =
     any_elim (λ next. bytes_eq next b || reaches_within m n next b) (mentions_of m (item_named a m.items)) r (λ x i q.

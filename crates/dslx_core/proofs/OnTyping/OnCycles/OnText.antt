@@ -17,7 +17,7 @@ use Rattle.dslx_meaning.specs.Rules.ConstantRules.{constant_of, is_empty}
 use Rattle.dslx_meaning.specs.Rules.ItemRules.{annotation_typing, base_if_bits, fields_found, has_equal_values, item_type_env, member_values, members_found, typing_of_type}
 use Rattle.dslx_meaning.specs.Rules.NodeRules.{expr_pair}
 use Rattle.dslx_meaning.specs.Rules.OperatorRules.{is_bits, unless_type}
-use Rattle.dslx_meaning.specs.Rules.ModuleRules.{faults_of, found_of_instance, globals_of, instance_limit, instances_faults, instances_of, item_found, items_found, outside_instances, top_faults, top_found}
+use Rattle.dslx_meaning.specs.Rules.ModuleRules.{faults_of, found_of_instance, globals_of, globals_within, instance_limit, instances_faults, instances_of, item_found, items_found, outside_instances, top_faults, top_found}
 use Rattle.dslx_meaning.specs.Rules.Mentions.{definition_mentions, item_reaches, mentioned, mentioned_in_type, mentions_of, reaches_within, type_if}
 use Rattle.dslx_meaning.specs.Rules.TypeEnvs.{Instance, breaks_if, has_broken}
 use Rattle.dslx_core.specs.Typing.TypingRelations.Closed.{IsOneOf}
@@ -67,6 +67,47 @@ passes_free m name x e h = by_test (item_reaches m name name) refl
     by_test false q = q
     by_test true q = not_all_pass m (name_of_definition x) x (subst (λ z. item_named z m.items ≡ Some x) (sym same) e) (subst (λ z. item_reaches m z z ≡ true) (sym same) q) h
 
+-- constants and types are judged by themselves, functions and procs in their instances
+abbrev pub is_judged_alone : Definition → Bool
+is_judged_alone (d.Function f) = false
+is_judged_alone (d.Proc p) = false
+is_judged_alone _ = true
+
+-- what is judged by itself and breaks no rule doesn't reach itself
+pub item_free : (m : Module) (n : ℕ) (name : List ℕ) (x : Definition) → item_named name m.items ≡ Some x → has_broken (item_found (globals_within m n) x).faults ≡ false → is_judged_alone x ≡ true → item_reaches m name name ≡ false
+item_free m n name (d.Function f) e w alone = absurd (true≢false (sym alone))
+item_free m n name (d.Proc p) e w alone = absurd (true≢false (sym alone))
+item_free m n name (d.Alias a) e w alone =
+    passes_free m name (d.Alias a) e (written_type_judged (uses_freely m a.name.name) a.ty [] (item_type_env (globals_within m n) a.name.name []) (stands m n a.name.name [] [] (λ z q. refl)) w)
+item_free m n name (d.Struct s) e w alone =
+    let found = fields_found (item_type_env (globals_within m n) s.name.name []) [] s.fields in
+    let empty = breaks_if (is_empty s.fields) 31 s.span in
+    passes_free m name (d.Struct s) e (fields_pass m n s.name.name s.fields [] (front found.faults empty (front (found.faults ++ empty) _ w)))
+item_free m n name (d.Enum x) e w alone =
+    let context = item_type_env (globals_within m n) x.name.name [] in
+    let base = typing_of_type context x.base in
+    let members = members_found context (base_if_bits base.ty) [] x.members in
+    let one = unless_type is_bits 23 x.span base.ty in
+    let two = breaks_if (is_empty x.members || has_equal_values (member_values context (base_if_bits base.ty) x.members)) 23 x.span in
+    let r = unbroken_parts base.faults members.faults (front (base.faults ++ members.faults) one (front ((base.faults ++ members.faults) ++ one) two w)) in
+    passes_free m name (d.Enum x) e (join (uses_freely m x.name.name) (mentioned_in_type x.base []) (flat_map (λ (y : Member). mentioned y.value []) x.members)
+    (written_type_judged (uses_freely m x.name.name) x.base [] context (stands m n x.name.name [] [] (λ z q. refl)) r.0) (members_pass m n x.name.name x.members (base_if_bits base.ty) [] r.1))
+item_free m n name (d.Constant c) e w alone =
+    let context = item_type_env (globals_within m n) c.name.name [] in
+    let written = annotation_typing context c.ty in
+    let value = constant_of context (expr_pair c.value) in
+    let wrong = wanted_faults (out-Expr c.value).span written.ty value.judgement.ty in
+    let r = three_unbroken written.faults value.judgement.faults wrong w in
+    passes_free m name (d.Constant c) e (join (uses_freely m c.name.name) (type_if c.ty []) (mentioned c.value []) (annotation_passes m n c.name.name c.ty r.0) (constant_passes m n c.name.name [] [] (λ z q. refl) c.value r.1))
+
+judged : (x : Definition) → as_function (Some x) ≡ None → as_proc (Some x) ≡ None → is_judged_alone x ≡ true
+judged (d.Function f) no_function no_proc = none_some f (sym no_function)
+judged (d.Proc p) no_function no_proc = none_some p (sym no_proc)
+judged (d.Constant c) no_function no_proc = refl
+judged (d.Alias a) no_function no_proc = refl
+judged (d.Struct s) no_function no_proc = refl
+judged (d.Enum x) no_function no_proc = refl
+
 module _ (m : Module) (top : Option (List ℕ)) (accepted : faults_of m top ≡ []) where
   abbrev n : ℕ
   n = 2 * length m.items
@@ -76,30 +117,7 @@ module _ (m : Module) (top : Option (List ℕ)) (accepted : faults_of m top ≡ 
   item_whole name x e = whole (item_found (globals_of m) x).faults (item_faults (globals_of m) name x m.items e (items_empty m top accepted))
 
   pub items_free : (name : List ℕ) (x : Definition) → item_named name m.items ≡ Some x → as_function (Some x) ≡ None → as_proc (Some x) ≡ None → item_reaches m name name ≡ false
-  items_free name (d.Function f) e no_function no_proc = none_some f (sym no_function)
-  items_free name (d.Proc p) e no_function no_proc = none_some p (sym no_proc)
-  items_free name (d.Alias a) e no_function no_proc =
-      passes_free m name (d.Alias a) e (written_type_judged (uses_freely m a.name.name) a.ty [] (item_type_env (globals_of m) a.name.name []) (stands m n a.name.name [] [] (λ z q. refl)) (item_whole name (d.Alias a) e))
-  items_free name (d.Struct s) e no_function no_proc =
-      let found = fields_found (item_type_env (globals_of m) s.name.name []) [] s.fields in
-      let empty = breaks_if (is_empty s.fields) 31 s.span in
-      passes_free m name (d.Struct s) e (fields_pass m n s.name.name s.fields [] (front found.faults empty (front (found.faults ++ empty) _ (item_whole name (d.Struct s) e))))
-  items_free name (d.Enum x) e no_function no_proc =
-      let context = item_type_env (globals_of m) x.name.name [] in
-      let base = typing_of_type context x.base in
-      let members = members_found context (base_if_bits base.ty) [] x.members in
-      let one = unless_type is_bits 23 x.span base.ty in
-      let two = breaks_if (is_empty x.members || has_equal_values (member_values context (base_if_bits base.ty) x.members)) 23 x.span in
-      let r = unbroken_parts base.faults members.faults (front (base.faults ++ members.faults) one (front ((base.faults ++ members.faults) ++ one) two (item_whole name (d.Enum x) e))) in
-      passes_free m name (d.Enum x) e (join (uses_freely m x.name.name) (mentioned_in_type x.base []) (flat_map (λ (y : Member). mentioned y.value []) x.members)
-      (written_type_judged (uses_freely m x.name.name) x.base [] context (stands m n x.name.name [] [] (λ z q. refl)) r.0) (members_pass m n x.name.name x.members (base_if_bits base.ty) [] r.1))
-  items_free name (d.Constant c) e no_function no_proc =
-      let context = item_type_env (globals_of m) c.name.name [] in
-      let written = annotation_typing context c.ty in
-      let value = constant_of context (expr_pair c.value) in
-      let wrong = wanted_faults (out-Expr c.value).span written.ty value.judgement.ty in
-      let r = three_unbroken written.faults value.judgement.faults wrong (item_whole name (d.Constant c) e) in
-      passes_free m name (d.Constant c) e (join (uses_freely m c.name.name) (type_if c.ty []) (mentioned c.value []) (annotation_passes m n c.name.name c.ty r.0) (constant_passes m n c.name.name [] [] (λ z q. refl) c.value r.1))
+  items_free name x e no_function no_proc = item_free m n name x e (item_whole name x e) (judged x no_function no_proc)
 
   pub instances_free : (i : Instance) → IsOneOf i (instances_of m top) → item_reaches m i.name i.name ≡ false
   instances_free i one = by_item (item_named i.name m.items) refl

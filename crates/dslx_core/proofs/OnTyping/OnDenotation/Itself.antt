@@ -1,7 +1,6 @@
 -- What is known of the items of a text, where nothing is wrong with them: meanings that are those over themselves.
 use Rattle.std.proofs.Common.{◌≡◌, ℕ, Bool, true, false, if◌then◌else◌, List, [], ◌∷◌, map, Option, Some, None, refl, sym, ap, ◌∙◌}
 use mathlib.Core.Bool.{true≢false}
-use Rattle.std.proofs.Math.Path.{fun_ext}
 use Rattle.std.specs.Str.{bytes_eq}
 use Rattle.dslx_tree.specs.declared.item.Alias.{Alias}
 use Rattle.dslx_tree.specs.declared.item.Constant.{Constant}
@@ -21,6 +20,7 @@ use Rattle.dslx_meaning.specs.Rules.ModuleRules.{item_found, globals_over, type_
 use Rattle.dslx_meaning.specs.Rules.NameRules.{has_member}
 use Rattle.dslx_core.specs.Typing.Complete.HasValue.{AliasHasType, ConstantHasValue, EnumHasType, IsWellTypedFound, StructHasType}
 use Rattle.dslx_core.specs.Typing.Depends.Alike.{UseAlike}
+use Rattle.dslx_core.specs.Typing.Laws.Agreement.{ItemMeansOne}
 use Rattle.dslx_core.proofs.Lemmas.Typing.Depends.{call_unless}
 
 -- what is known of items with whose text nothing is wrong
@@ -34,7 +34,6 @@ pub record HasValue (known : GlobalEnv) : Type 0 where
 pub record IsSettled (m : Module) (known : GlobalEnv) : Type 0 where
   pub text : known.whole ≡ m
   pub kinds : (name : List ℕ) → known.items.is_constant name ≡ is_constant_item (item_named name known.whole.items)
-  pub ends : (name : List ℕ) → item_reaches m name name ≡ false
   pub uses : (u : Use) (name : List ℕ) → UseAlike known (globals_over known) u name
   pub well_typed : (name : List ℕ) (x : Definition) → item_named name m.items ≡ Some x → IsWellTypedFound known (item_found known x)
   pub stand : HasValue known
@@ -107,38 +106,20 @@ module _ (m : Module) (known : GlobalEnv) (s : IsSettled m known) where
       let text = at_item name (λ o. and_then (as_enum o) (λ x. enum_member_value known x member (member_named member x.members))) in
       sym (next ∙ text ∙ member_means member name (item_named name m.items) refl)
 
-  call_itself : (name : List ℕ) (given operands : List DslxValue) → (meanings_over m known.items).call name given operands ≡ known.items.call name given operands
-  call_itself name given operands =
+  call_itself : (name : List ℕ) → item_reaches m name name ≡ false → (given operands : List DslxValue) → (meanings_over m known.items).call name given operands ≡ known.items.call name given operands
+  call_itself name free given operands =
       let next = (s.uses AsFunction name).call given operands in
-      let loops = (λ i. item_reaches (s.text i) name name) ∙ s.ends name in
+      let loops = (λ i. item_reaches (s.text i) name name) ∙ free in
       sym (next ∙ ap (λ b. call_unless b (and_then (as_function (item_named name known.whole.items)) (λ f. call_of known.items f given operands))) loops
       ∙ at_item name (λ o. and_then (as_function o) (λ f. call_of known.items f given operands)))
 
-  -- what is known of the items, over what is known of them
-  pub over_itself : meanings_over m known.items ≡ known.items
-  over_itself = λ j. record {
-    type_named = types j;
-    struct_named = structs j;
-    is_constant = kind j;
-    constant = constants j;
-    member = members j;
-    call = calls j;
+  -- what is known of an item that doesn't reach itself, over what is known of the others
+  pub over_itself : (name : List ℕ) → item_reaches m name name ≡ false → ItemMeansOne (meanings_over m known.items) known.items name
+  over_itself name free = record {
+    types = sym (s.uses AsType name ∙ at_item name (type_known known) ∙ type_means name (item_named name m.items) refl);
+    structs = sym (s.uses AsStruct name ∙ at_item name (λ o. and_then (as_struct o) (λ x. (struct_seen known x).ty)) ∙ struct_means name (item_named name m.items) refl);
+    kind = sym (s.kinds name ∙ at_item name is_constant_item);
+    constants = sym (s.uses AsValue name ∙ at_item name (λ o. and_then (as_constant o) (λ c. (constant_seen known c).value)) ∙ constant_means name (item_named name m.items) refl);
+    members = member_itself name;
+    calls = call_itself name free;
   }
-    where
-      types : (meanings_over m known.items).type_named ≡ known.items.type_named
-      types = fun_ext (λ name. sym (s.uses AsType name ∙ at_item name (type_known known) ∙ type_means name (item_named name m.items) refl))
-
-      structs : (meanings_over m known.items).struct_named ≡ known.items.struct_named
-      structs = fun_ext (λ name. sym (s.uses AsStruct name ∙ at_item name (λ o. and_then (as_struct o) (λ x. (struct_seen known x).ty)) ∙ struct_means name (item_named name m.items) refl))
-
-      kind : (meanings_over m known.items).is_constant ≡ known.items.is_constant
-      kind = fun_ext (λ name. sym (s.kinds name ∙ at_item name is_constant_item))
-
-      constants : (meanings_over m known.items).constant ≡ known.items.constant
-      constants = fun_ext (λ name. sym (s.uses AsValue name ∙ at_item name (λ o. and_then (as_constant o) (λ c. (constant_seen known c).value)) ∙ constant_means name (item_named name m.items) refl))
-
-      members : (meanings_over m known.items).member ≡ known.items.member
-      members = fun_ext (λ name. fun_ext (member_itself name))
-
-      calls : (meanings_over m known.items).call ≡ known.items.call
-      calls = fun_ext (λ name. fun_ext (λ given. fun_ext (call_itself name given)))

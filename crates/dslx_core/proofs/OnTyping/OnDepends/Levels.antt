@@ -1,42 +1,33 @@
 -- What is known of items settles by their ranks, whether they reach themselves or not: by as many levels as twice the rank.
-use Rattle.std.proofs.Common.{◌≡◌, ◌≤◌, ◌*◌, ◌&&◌, ◌||◌, ℕ, zero, suc, Bool, true, false, not, if◌then◌else◌, List, [], ◌∷◌, map, length, Option, Some, None, arith, refl, sym, ap, subst, ◌∙◌}
+use Rattle.std.proofs.Common.{◌≡◌, ◌≤◌, ◌*◌, ◌&&◌, ℕ, zero, suc, Bool, true, false, not, if◌then◌else◌, List, [], ◌∷◌, length, Option, Some, None, arith, refl, sym, ap, subst, ◌∙◌}
 use mathlib.Core.Bool.{true≢false}
 use Rattle.std.specs.Str.{bytes_eq}
 use Rattle.std.specs.List.{list_all}
-use Rattle.dslx_tree.specs.declared.expr.Expr.{Expr}
 use Rattle.dslx_tree.specs.declared.item.Definition.{Definition}
 use Rattle.dslx_tree.specs.declared.item.Definition.TheVariants as d
-use Rattle.dslx_tree.specs.declared.item.Field.{Field}
 use Rattle.dslx_tree.specs.declared.item.Function.{Function}
 use Rattle.dslx_tree.specs.declared.item.Module.{Module}
-use Rattle.dslx_tree.specs.declared.type_expr.TypeExpr.{TypeExpr}
-use Rattle.dslx_meaning.specs.Environment.{Given}
-use Rattle.dslx_meaning.specs.Items.{as_function, is_constant_item, item_named}
-use Rattle.dslx_meaning.specs.Rules.ConstantRules.{ConstantSeen, constant_of}
-use Rattle.dslx_meaning.specs.Rules.ItemRules.{result_typing, typing_of_type}
-use Rattle.dslx_meaning.specs.Rules.Mentions.{Use, AsValue, AsPattern, AsType, AsFunction, AsProc, AsEnum, AsStruct, Mention, expr_if, fields_mentions, is_cyclic, is_of_use, item_reaches, mentioned, mentioned_in_type, mentions_of, names_mentioned, parametric_names, type_if}
-use Rattle.dslx_meaning.specs.Rules.ModuleRules.{declared_type, default_if, found_of_instance, globals_over, globals_within}
-use Rattle.dslx_meaning.specs.Rules.NodeRules.{expr_pair}
-use Rattle.dslx_meaning.specs.Rules.TypeEnvs.{GlobalEnv, Instance, Judgement, has_broken, span_of, within}
-use Rattle.dslx_meaning.specs.Rules.TypeRules.{unless_unit}
+use Rattle.dslx_tree.specs.declared.process.Proc.{Proc}
+use Rattle.dslx_meaning.specs.Items.{as_function, item_named}
+use Rattle.dslx_meaning.specs.Rules.Mentions.{Use, AsValue, AsPattern, AsType, AsFunction, AsProc, AsEnum, AsStruct, Mention, is_cyclic, is_of_use, item_reaches, mentions_of, names_mentioned, parametric_names}
+use Rattle.dslx_meaning.specs.Rules.ModuleRules.{found_of_instance, globals_over, globals_within}
+use Rattle.dslx_meaning.specs.Rules.TypeEnvs.{GlobalEnv, Instance}
 use Rattle.dslx_core.specs.Typing.Depends.Alike.{MentionsAlike, NamesAlike, SeenAlike, SeesAlike, TypesAlike, UseAlike}
 use Rattle.dslx_core.specs.Typing.Depends.Settled.{BindsNoConstant}
 use Rattle.dslx_core.specs.Typing.Laws.Ranks.{is_above}
-use Rattle.dslx_core.specs.Typing.TypingRelations.Cycles.{AllUsed}
 use Rattle.dslx_core.specs.Typing.TypingRelations.Reached.{AllNamed, IsClosed, MentionsReach}
-use Rattle.dslx_core.proofs.Lemmas.Typing.Laws.Chains.{or_cases, or_first, or_second, same_name}
+use Rattle.dslx_core.proofs.Lemmas.Typing.Laws.Chains.{or_cases, or_first, or_second}
 use Rattle.dslx_core.proofs.Lemmas.Typing.Laws.Reaching.{item_ranked, reaches_mentioned, reaches_on}
-use Rattle.dslx_core.proofs.OnTyping.OnCycles.Joined.{expression_judged, written_type_judged}
-use Rattle.dslx_core.proofs.OnTyping.OnCycles.OfItems.{no_call, no_constant, no_member, no_named_type, no_struct, stands_where, uses_freely}
-use Rattle.dslx_core.proofs.OnTyping.OnCycles.Parts.{constant_inside, unmarked}
-use Rattle.dslx_core.proofs.OnTyping.OnCycles.Untyped.{broken_constant_is_none, broken_type_is_none}
-use Rattle.dslx_core.proofs.OnTyping.OnDepends.OfItems as of
-use Rattle.dslx_core.proofs.OnTyping.OnDepends.OfItems.{FunctionParts, LeftAlike, Sight, Stage, den_one, den_parts, first_den, function_parts, left_next, mentions_alike, plain_alike, plain_at}
-use Rattle.dslx_core.proofs.OnTyping.OnDepends.Parametrics.{Covers, env_behind, types_alike}
-use Rattle.dslx_core.proofs.OnTyping.OnDepends.Ranks.{all_at, all_from, ranked, ranked_below, ranked_reached, ranked_so}
-use Rattle.dslx_core.proofs.OnTyping.OnDepends.NoProcs.{IsNoProc}
+use Rattle.dslx_core.proofs.OnTyping.OnCycles.OfItems.{kind_is, no_call, no_constant, no_member, no_named_type, no_struct}
+use Rattle.dslx_core.proofs.OnTyping.OnCycles.OfProcs.{reaches_no_proc}
+use Rattle.dslx_core.proofs.OnTyping.OnDepends.Declared as of
+use Rattle.dslx_core.proofs.OnTyping.OnDepends.Declared.{LowPass, Reads, beside_or, enums_alike, is_beside, loops_beside}
+use Rattle.dslx_core.proofs.OnTyping.OnDepends.OfItems.{Sight, Stage, den_one, plain_alike, plain_at}
+use Rattle.dslx_core.proofs.OnTyping.OnDepends.Ranks.{all_at, all_from, ranked, ranked_below, ranked_longer, ranked_reached, ranked_so}
+use Rattle.dslx_core.proofs.OnTyping.OnDepends.NoProcs.{IsNoProc, NoProcs}
 use Rattle.dslx_core.proofs.OnTyping.OnDepends.Scopes.{seen_from}
-use Rattle.dslx_core.proofs.OnTyping.OnDepends.Stages.{MentionsOwn, and_both, globals_over_alike, is_proc_item, no_proc_use, no_procs_mentioned, not_true, unless_proc, unless_true, unused_alike, uses_over}
+use Rattle.dslx_core.proofs.OnTyping.OnDepends.Stages.{MentionsOwn, all_no_procs, and_both, globals_over_alike, is_proc_item, no_proc_use, no_procs_mentioned, not_true, unless_proc, unless_true, unused_alike, uses_over}
+use Rattle.dslx_core.proofs.OnTyping.OnTyping.Closed.{all_weaker}
 use Rattle.dslx_core.proofs.OnTyping.OnTyping.OfItems as of_reached
 use Rattle.dslx_core.proofs.OnTyping.OnTyping.OfItems.{all_reach, cyclic_is, den_reach, function_is, instances_reach, instances_reach_down, item_so_named, mentions_reach, whole_is}
 
@@ -55,19 +46,30 @@ settles_closed m k name h =
     let r = and_both (ranked m k name) (not (is_proc_item (item_named name m.items))) h in
     no_procs_mentioned (ranked m k) m (item_named name m.items) (not_true (is_proc_item (item_named name m.items)) r.1) (ranked_mentions m k name r.0)
 
--- what an item reaches that is the same or reaches it back
-abbrev pub is_beside : Module → List ℕ → List ℕ → Bool
-is_beside m owner name = item_reaches m owner name && is_cyclic m owner name
-
 -- what stands beside or below
 abbrev pub is_reached_so : Module → ℕ → List ℕ → List ℕ → Bool
-is_reached_so m k owner name = is_beside m owner name || settles m k name
+is_reached_so m k = beside_or m (settles m k)
 
 -- what doesn't reach it back stands below
-below_settles : (m : Module) (k : ℕ) (owner name : List ℕ) → settles m (suc k) owner ≡ true → item_reaches m owner name ≡ true → item_reaches m name owner ≡ false → is_proc_item (item_named name m.items) ≡ false → settles m k name ≡ true
+pub below_settles : (m : Module) (k : ℕ) → LowPass m (settles m k) (settles m (suc k))
 below_settles m k owner name h e back other =
     let above : is_above m owner name ≡ true = λ i. e i && not (back i) in
     λ i. ranked_below m k owner name (and_both (ranked m (suc k) owner) (not (is_proc_item (item_named owner m.items))) h).0 above i && not (other i)
+
+-- what an item mentions that doesn't reach itself
+pub settles_next : (m : Module) (k : ℕ) (name : List ℕ) → settles m (suc k) name ≡ true → item_reaches m name name ≡ false → list_all (settles m k) (mentions_of m (item_named name m.items)) ≡ true
+settles_next m k name h free = all_from (settles m k) (mentions_of m (item_named name m.items)) (λ x i.
+    let other = (and_both (ranked m (suc k) x) (not (is_proc_item (item_named x m.items))) (all_at (settles m (suc k)) (mentions_of m (item_named name m.items)) (settles_closed m (suc k) name h) x i)).1 in
+    by_back x (reaches_mentioned m name x i) (not_true (is_proc_item (item_named x m.items)) other) (item_reaches m x name) refl)
+  where
+    by_back : (x : List ℕ) → item_reaches m name x ≡ true → is_proc_item (item_named x m.items) ≡ false → (b : Bool) → item_reaches m x name ≡ b → settles m k x ≡ true
+    by_back x e other true q = absurd (true≢false (sym (reaches_on m name x name e q) ∙ free))
+    by_back x e other false q = below_settles m k name x h e q other
+
+pub settles_longer : (m : Module) (k : ℕ) (name : List ℕ) → settles m k name ≡ true → settles m (suc k) name ≡ true
+settles_longer m k name h =
+    let r = and_both (ranked m k name) (not (is_proc_item (item_named name m.items))) h in
+    λ i. ranked_longer m k name r.0 i && r.1 i
 
 pub own_settles : (m : Module) (k : ℕ) → MentionsOwn (settles m (suc k)) (is_reached_so m k) m
 own_settles m k owner h = all_from (is_reached_so m k owner) (mentions_of m (item_named owner m.items)) (λ x i.
@@ -78,13 +80,10 @@ own_settles m k owner h = all_from (is_reached_so m k owner) (mentions_of m (ite
     by_back x e other true q = or_first (is_beside m owner x) (settles m k x) (λ i. e i && or_second (bytes_eq x owner) (item_reaches m x owner) q i)
     by_back x e other false q = or_second (is_beside m owner x) (settles m k x) (below_settles m k owner x h e q other)
 
--- what stands beside reaches itself
-loops_beside : (m : Module) (owner name : List ℕ) → is_beside m owner name ≡ true → item_reaches m name name ≡ true
-loops_beside m owner name e =
-    let r = and_both (item_reaches m owner name) (is_cyclic m owner name) e in
-    or_cases (bytes_eq name owner) (item_reaches m name owner) r.1 (λ s. subst (λ z. item_reaches m z name ≡ true) (sym (same_name name owner s)) r.0) (λ q. reaches_on m name owner name q r.0)
-
 -- ---- at one level
+
+pub reads_level : (m : Module) (n : ℕ) → Reads m (globals_within m n)
+reads_level m n = record { whole = whole_is m n; kinds = kind_is m n; cyclic = cyclic_is m n }
 
 module _ (m : Module) (k i j : ℕ) (s : Stage (settles m k) m (globals_within m i) (globals_within m j)) where
   abbrev A : GlobalEnv
@@ -102,124 +101,15 @@ module _ (m : Module) (k i j : ℕ) (s : Stage (settles m k) m (globals_within m
   abbrev T : List ℕ → List ℕ → Bool
   T = is_reached_so m k
 
-  -- enums below, and those beside, which have no members
-  enums_alike : (owner : List ℕ) → Q owner ≡ true → (name member : List ℕ) → item_reaches A.whole owner name ≡ true → A.items.member name member ≡ B.items.member name member
-  enums_alike owner h name member e = by_back (item_reaches m name owner) refl
-    where
-      reached : item_reaches m owner name ≡ true
-      reached = sym (λ t. item_reaches (whole_is m i t) owner name) ∙ e
+  -- enums beside have no members
+  no_members : (owner name : List ℕ) → Q owner ≡ true → item_reaches m owner name ≡ true → item_reaches m name owner ≡ true → (member : List ℕ) → A.items.member name member ≡ B.items.member name member
+  no_members owner name h e back member = let loops = reaches_on m name owner name back e in no_member m name loops i member ∙ sym (no_member m name loops j member)
 
-      by_back : (b : Bool) → item_reaches m name owner ≡ b → A.items.member name member ≡ B.items.member name member
-      by_back true q = let loops = reaches_on m name owner name q reached in no_member m name loops i member ∙ sym (no_member m name loops j member)
-      by_back false q =
-          let enums = s.uses AsEnum name (λ u. below_settles m k owner name h reached q (not_true (is_proc_item (item_named name m.items)) (no_proc_use AsEnum tt (item_named name m.items) u))) in
-          enums.members member
-
-  -- what mentions none but what stands below
-  sees_below : (owner : List ℕ) → Q owner ≡ true → (bound : List (List ℕ)) → NamesAlike A B bound → (ms : List Mention) → list_all P (names_mentioned m ms) ≡ true → SeesAlike P bound owner A B ms
-  sees_below owner h bound n ms e = record { known = s.known; enums = enums_alike owner h; hidden = n; reach = s.reach owner ms e; alike = mentions_alike P m A B (settles_closed m k) s owner ms e }
-
-  below_sight : Sight P Q (λ owner. P) m A B
-  below_sight = record { text = s.text; known = s.known; plain = plain_at P m A B (settles_closed m k) s; sees = sees_below }
-
-  -- ---- the types that a function declares
+  pub function_types : (f : Function) → item_named f.name.name m.items ≡ Some (d.Function f) → Q f.name.name ≡ true → NamesAlike A B (parametric_names f.parametrics) → TypesAlike (globals_over A) (globals_over B) f.name.name
+  function_types f is h plain = of.function_types m P Q (settles_closed m k) (below_settles m k) A B (reads_level m i) (reads_level m j) s no_members f is h plain
 
   abbrev ExprDen : List ℕ → List Mention → Type 0
   ExprDen owner ms = list_all (T owner) (names_mentioned m ms) ≡ true
-
-  -- what rule 3 doesn't refuse stands below
-  below : (owner : List ℕ) (ms : List Mention) → ExprDen owner ms → AllUsed (uses_freely m owner) ms → list_all P (names_mentioned m ms) ≡ true
-  below owner [] e u = refl
-  below owner (n ∷ ms) e u = by_use (is_of_use n.use_as (item_named n.name m.items)) e u.0 (λ g. below owner ms g u.1)
-    where
-      one : not (is_cyclic m owner n.name) ≡ true → T owner n.name ≡ true → P n.name ≡ true
-      one v t = or_cases (is_beside m owner n.name) (P n.name) t (λ q. absurd (true≢false (sym v ∙ ap not (and_both (item_reaches m owner n.name) (is_cyclic m owner n.name) q).1))) (λ q. q)
-
-      by_use : (b : Bool) → list_all (T owner) (if b then n.name ∷ names_mentioned m ms else names_mentioned m ms) ≡ true → not (b && is_cyclic m owner n.name) ≡ true
-          → (list_all (T owner) (names_mentioned m ms) ≡ true → list_all P (names_mentioned m ms) ≡ true) → list_all P (if b then n.name ∷ names_mentioned m ms else names_mentioned m ms) ≡ true
-      by_use true g v rest =
-          let r = and_both (T owner n.name) (list_all (T owner) (names_mentioned m ms)) g in
-          let own = one v r.0 in
-          let others = rest r.1 in
-          λ t. own t && others t
-      by_use false g v rest = rest g
-
-  type_of : (owner : List ℕ) → Q owner ≡ true → (bound : List (List ℕ)) → NamesAlike A B bound → (x : TypeExpr) → ExprDen owner (mentioned_in_type x bound) → (given : List Given) (unknown : List (List ℕ)) → Covers bound given unknown
-      → (typing_of_type (env_behind A owner given unknown) x).ty ≡ (typing_of_type (env_behind B owner given unknown) x).ty
-  type_of owner h bound n x e given unknown c = by_broken (has_broken one.faults) (has_broken two.faults) refl refl
-    where
-      one : Judgement
-      one = typing_of_type (env_behind A owner given unknown) x
-
-      two : Judgement
-      two = typing_of_type (env_behind B owner given unknown) x
-
-      same : AllUsed (uses_freely m owner) (mentioned_in_type x bound) → one.ty ≡ two.ty
-      same u = ap (λ (z : Judgement). z.ty) (of.type_at P Q (λ owner. P) m A B below_sight owner h bound n x (below owner (mentioned_in_type x bound) e u) given unknown [])
-
-      by_broken : (p q : Bool) → has_broken one.faults ≡ p → has_broken two.faults ≡ q → one.ty ≡ two.ty
-      by_broken false q v w = same (written_type_judged (uses_freely m owner) x bound (env_behind A owner given unknown) (stands_where m i owner bound given unknown c) v)
-      by_broken true false v w = same (written_type_judged (uses_freely m owner) x bound (env_behind B owner given unknown) (stands_where m j owner bound given unknown c) w)
-      by_broken true true v w = broken_type_is_none x (env_behind A owner given unknown) v ∙ sym (broken_type_is_none x (env_behind B owner given unknown) w)
-
-  value_of : (owner : List ℕ) → Q owner ≡ true → (bound : List (List ℕ)) → NamesAlike A B bound → (x : Expr) → ExprDen owner (mentioned x bound) → (given : List Given) (unknown : List (List ℕ)) → Covers bound given unknown
-      → (constant_of (env_behind A owner given unknown) (expr_pair x)).value ≡ (constant_of (env_behind B owner given unknown) (expr_pair x)).value
-  value_of owner h bound n x e given unknown c = by_broken (has_broken one.judgement.faults) (has_broken two.judgement.faults) refl refl
-    where
-      one : ConstantSeen
-      one = constant_of (env_behind A owner given unknown) (expr_pair x)
-
-      two : ConstantSeen
-      two = constant_of (env_behind B owner given unknown) (expr_pair x)
-
-      same : AllUsed (uses_freely m owner) (mentioned x bound) → one.value ≡ two.value
-      same u = ap (λ (z : ConstantSeen). z.value) (of.constant_at P Q (λ owner. P) m A B below_sight owner h bound n x (below owner (mentioned x bound) e u) given unknown [])
-
-      whole : (n : ℕ) → has_broken (constant_of (env_behind (globals_within m n) owner given unknown) (expr_pair x)).judgement.faults ≡ false → AllUsed (uses_freely m owner) (mentioned x bound)
-      whole n v =
-          let context = env_behind (globals_within m n) owner given unknown in
-          expression_judged (uses_freely m owner) x bound context (stands_where m n owner bound given unknown c) (unmarked (span_of (expr_pair x)) (within context (expr_pair x)) (constant_inside context (expr_pair x) v))
-
-      by_broken : (p q : Bool) → has_broken one.judgement.faults ≡ p → has_broken two.judgement.faults ≡ q → one.value ≡ two.value
-      by_broken false q v w = same (whole i v)
-      by_broken true false v w = same (whole j w)
-      by_broken true true v w = broken_constant_is_none (env_behind A owner given unknown) (expr_pair x) v ∙ sym (broken_constant_is_none (env_behind B owner given unknown) (expr_pair x) w)
-
-  default_of : (owner : List ℕ) → Q owner ≡ true → (bound : List (List ℕ)) → NamesAlike A B bound → (o : Option Expr) → ExprDen owner (expr_if o bound) → (given : List Given) (unknown : List (List ℕ)) → Covers bound given unknown
-      → (default_if (env_behind A owner given unknown) o).value ≡ (default_if (env_behind B owner given unknown) o).value
-  default_of owner h bound n None e given unknown c = refl
-  default_of owner h bound n (Some x) e given unknown c = value_of owner h bound n x e given unknown c
-
-  arguments_of : (owner : List ℕ) → Q owner ≡ true → (fs : List Field) (bound : List (List ℕ)) → NamesAlike A B bound → ExprDen owner (fields_mentions fs bound) → (given : List Given) (unknown : List (List ℕ)) → Covers bound given unknown
-      → map (λ (f : Field). declared_type (env_behind A owner given unknown) f.ty) fs ≡ map (λ (f : Field). declared_type (env_behind B owner given unknown) f.ty) fs
-  arguments_of owner h [] bound n e given unknown c = refl
-  arguments_of owner h (f ∷ fs) bound n e given unknown c =
-      let both = den_parts (T owner) m (mentioned_in_type f.ty bound) (fields_mentions fs bound) e in
-      let first = type_of owner h bound n f.ty both.0 given unknown c in
-      let rest = arguments_of owner h fs bound n both.1 given unknown c in
-      λ t. unless_unit (first t) ∷ rest t
-
-  result_of : (owner : List ℕ) → Q owner ≡ true → (o : Option TypeExpr) (bound : List (List ℕ)) → NamesAlike A B bound → ExprDen owner (type_if o bound) → (given : List Given) (unknown : List (List ℕ)) → Covers bound given unknown
-      → (result_typing (env_behind A owner given unknown) o).ty ≡ (result_typing (env_behind B owner given unknown) o).ty
-  result_of owner h None bound n e given unknown c = refl
-  result_of owner h (Some x) bound n e given unknown c = type_of owner h bound n x e given unknown c
-
-  pub function_types : (f : Function) → item_named f.name.name m.items ≡ Some (d.Function f) → Q f.name.name ≡ true → NamesAlike A B (parametric_names f.parametrics) → TypesAlike (globals_over A) (globals_over B) f.name.name
-  function_types f is h plain =
-      types_alike A B owner (d.Function f) ((λ t. item_named owner (whole_is m i t).items) ∙ is) ((λ t. item_named owner (whole_is m j t).items) ∙ is) (LeftAlike T m A B owner) (left_next T m A B owner)
-      (λ bound p ps l given unknown c. type_of owner h bound l.plain p.ty (first_den T m A B owner bound p ps l).0 given unknown c)
-      (λ bound p ps l given unknown c. default_of owner h bound l.plain p.default (first_den T m A B owner bound p ps l).1 given unknown c)
-      (λ given unknown c.
-      let arguments = arguments_of owner h f.arguments (parametric_names f.parametrics) plain parts.arguments given unknown c in
-      let result = result_of owner h f.result (parametric_names f.parametrics) plain parts.result given unknown c in
-      λ t. record { arguments = arguments t; result = result t })
-      (record { plain = tt; others = plain; mentions = parts.parametrics })
-    where
-      owner : List ℕ
-      owner = f.name.name
-
-      parts : FunctionParts T m f
-      parts = function_parts T m f ((λ t. list_all (T owner) (mentions_of m (sym is t))) ∙ own_settles m k owner h)
 
   -- ---- all that stands beside and below
 
@@ -273,7 +163,7 @@ module _ (m : Module) (k i j : ℕ) (s : Stage (settles m k) m (globals_within m
         each name x q t free = all_reach P m (settles_closed m k) i owner name x q (below_only name t free) free
 
     sees_beside : (owner : List ℕ) → Q owner ≡ true → (bound : List (List ℕ)) → NamesAlike A B bound → (ms : List Mention) → ExprDen owner ms → SeesAlike P bound owner A B ms
-    sees_beside owner h bound n ms e = record { known = s.known; enums = enums_alike owner h; hidden = n; reach = reach_so owner ms e; alike = all_seen owner h ms e }
+    sees_beside owner h bound n ms e = record { known = s.known; enums = enums_alike m P Q (settles_closed m k) (below_settles m k) A B (reads_level m i) (reads_level m j) s no_members owner h; hidden = n; reach = reach_so owner ms e; alike = all_seen owner h ms e }
 
     pub beside_sight : Sight P Q T m A B
     beside_sight = record { text = s.text; known = s.known; plain = plain_at P m A B (settles_closed m k) s; sees = sees_beside }
@@ -285,7 +175,7 @@ both_named : (F G H : List ℕ → Bool) → ((name : List ℕ) → F name ≡ t
 both_named F G H f [] g h = tt
 both_named F G H f (i ∷ is) g h = (f i.name g.0 h.0, both_named F G H f is g.1 h.1)
 
-reached_below : (m : Module) (k n : ℕ) (i : Instance) → settles m (suc k) i.name ≡ true → AllNamed (settles m k) (found_of_instance (globals_within m n) i).reached
+pub reached_below : (m : Module) (k n : ℕ) (i : Instance) → settles m (suc k) i.name ≡ true → AllNamed (settles m k) (found_of_instance (globals_within m n) i).reached
 reached_below m k n i h =
     both_named (is_above m i.name) (settles m (suc k)) (settles m k)
     (λ name a s.
@@ -299,7 +189,7 @@ none_settle m a b = record {
   text = whole_is m a;
   known = record {
     whole = whole_is m a ∙ sym (whole_is m b);
-    kinds = λ name. kind a name ∙ sym (kind b name);
+    kinds = λ name. kind_is m a name ∙ sym (kind_is m b name);
     cyclic = λ owner name. cyclic_is m a owner name ∙ sym (cyclic_is m b owner name);
     sound = λ i e. absurd (true≢false (sym e));
     unbroken = λ i e. absurd (true≢false (sym e));
@@ -309,10 +199,6 @@ none_settle m a b = record {
   reached = λ i h. instances_reach (settles m zero) m (settles_closed m zero) a i h;
 }
   where
-    kind : (n : ℕ) (name : List ℕ) → (globals_within m n).items.is_constant name ≡ is_constant_item (item_named name m.items)
-    kind zero name = refl
-    kind (suc n) name = λ i. is_constant_item (item_named name (whole_is m n i).items)
-
     uses_none : (u : Use) (name : List ℕ) → (is_of_use u (item_named name m.items) ≡ true → false ≡ true) → UseAlike (globals_within m a) (globals_within m b) u name
     uses_none u name h = unused_alike m a b u name (not_true (is_of_use u (item_named name m.items)) (unless_true (is_of_use u (item_named name m.items)) h))
 
@@ -409,3 +295,36 @@ instances_settle m plain a b p q i f e =
     let here = every_item_settles m i.name (d.Function f) named refl in
     let s = ranks_settle m plain (length m.items) a b p q in
     (s.known.sound i here, s.known.unbroken i here)
+
+-- ---- what a proc mentions
+
+-- where nothing is mentioned as a proc
+pub mentions_settle : (m : Module) (ms : List Mention) → NoProcs ms → list_all (settles m (length m.items)) (names_mentioned m ms) ≡ true
+mentions_settle m [] h = refl
+mentions_settle m (x ∷ ms) h = by_use (is_of_use x.use_as (item_named x.name m.items)) refl (mentions_settle m ms h.1)
+  where
+    by_use : (b : Bool) → is_of_use x.use_as (item_named x.name m.items) ≡ b → list_all (settles m (length m.items)) (names_mentioned m ms) ≡ true
+        → list_all (settles m (length m.items)) (if b then x.name ∷ names_mentioned m ms else names_mentioned m ms) ≡ true
+    by_use true q rest = λ i. use_settles m x.use_as h.0 x.name q i && rest i
+    by_use false q rest = rest
+
+pub item_rank : (m : Module) (name : List ℕ) (x : Definition) → item_named name m.items ≡ Some x → ranked m (length m.items) name ≡ true
+item_rank m name x e = ranked_so m (length m.items) name (item_ranked m name x e)
+
+-- what is no proc never reaches one, so that it stands below each that it is reached from
+pub proc_below : (m : Module) (k : ℕ) (p : Proc) → item_named p.name.name m.items ≡ Some (d.Proc p) → ranked m (suc k) p.name.name ≡ true → (name : List ℕ) → item_reaches m p.name.name name ≡ true → is_proc_item (item_named name m.items) ≡ false
+    → settles m k name ≡ true
+proc_below m k p named h name e plain = by_back (item_reaches m name p.name.name) refl
+  where
+    by_back : (b : Bool) → item_reaches m name p.name.name ≡ b → settles m k name ≡ true
+    by_back true q = absurd (true≢false (ap is_proc_item (sym named) ∙ reaches_no_proc m (length m.items) name p.name.name plain q))
+    by_back false q =
+        let above : is_above m p.name.name name ≡ true = λ i. e i && not (q i) in
+        λ i. ranked_below m k p.name.name name h above i && not (plain i)
+
+pub all_below : (m : Module) (k : ℕ) (p : Proc) → item_named p.name.name m.items ≡ Some (d.Proc p) → ranked m (suc k) p.name.name ≡ true → (ms : List Mention) → NoProcs ms → list_all (item_reaches m p.name.name) (names_mentioned m ms) ≡ true
+    → list_all (settles m k) (names_mentioned m ms) ≡ true
+all_below m k p named h ms none e =
+    let R = item_reaches m p.name.name in
+    all_weaker (unless_proc R m) (settles m k)
+    (λ y v. let r = and_both (R y) (not (is_proc_item (item_named y m.items))) v in proc_below m k p named h y r.0 (not_true (is_proc_item (item_named y m.items)) r.1)) (names_mentioned m ms) (all_no_procs R m ms none e)

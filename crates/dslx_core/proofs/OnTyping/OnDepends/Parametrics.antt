@@ -78,7 +78,7 @@ not_either name n ns e h = (λ i. if e i then true else is_in name ns) ∙ h
 covers_unknown : (bound : List (List ℕ)) (given : List Given) (unknown : List (List ℕ)) (n : List ℕ) → Covers bound given unknown → Covers (n ∷ bound) given (n ∷ unknown)
 covers_unknown bound given unknown n h name q = let r = not_first name n bound q in let c = h name r.1 in (c.0, not_either name n unknown r.0 c.1)
 
-covers_given : (bound : List (List ℕ)) (given : List Given) (unknown : List (List ℕ)) (p : Parametric) (v : DslxValue) → Covers bound given unknown → Covers (p.name.name ∷ bound) (with_number given p v) unknown
+pub covers_given : (bound : List (List ℕ)) (given : List Given) (unknown : List (List ℕ)) (p : Parametric) (v : DslxValue) → Covers bound given unknown → Covers (p.name.name ∷ bound) (with_number given p v) unknown
 covers_given bound given unknown p v h name q =
     let r = not_first name p.name.name bound q in
     let c = h name r.1 in

@@ -1,5 +1,5 @@
 -- What is known by chains of items that are long enough.
-use Rattle.std.proofs.Common.{◌≡◌, ◌≤◌, ◌&&◌, ◌++◌, ℕ, zero, suc, Bool, true, false, not, if◌then◌else◌, List, [], ◌∷◌, length, Option, Some, None, arith, refl, sym, ap, subst, ◌∙◌}
+use Rattle.std.proofs.Common.{◌≡◌, ◌&&◌, ◌++◌, ℕ, zero, suc, Bool, true, false, not, if◌then◌else◌, List, [], ◌∷◌, Option, Some, None, refl, sym, ap, subst, ◌∙◌}
 use mathlib.Core.Bool.{true≢false}
 use Rattle.std.specs.Prelude.{flat_map}
 use Rattle.std.specs.List.{list_all}
@@ -21,15 +21,13 @@ use Rattle.dslx_meaning.specs.Rules.ItemRules.{ConstantFound, FunctionSeen, Type
 use Rattle.dslx_meaning.specs.Rules.TypeEnvs.{Instance, GlobalEnv}
 use Rattle.dslx_meaning.specs.Rules.Mentions.{Use, AsValue, AsPattern, AsType, AsFunction, AsProc, AsEnum, AsStruct, Mention, definition_mentions, expr_if, field_names, fields_mentions, is_of_use, mentioned, mentioned_in_block, mentioned_in_type, mentions_of, names_mentioned, parametric_names, parametrics_mentions, type_if, is_cyclic, item_reaches}
 use Rattle.dslx_meaning.specs.Rules.ModuleRules.{found_of_instance, found_of_item, globals_over, globals_within, size_known, type_known}
-use Rattle.dslx_core.specs.Typing.TypingRelations.Closed.{ends_within}
-use Rattle.dslx_core.specs.Typing.TypingRelations.Reached.{AllNamed, IsClosed}
-use Rattle.dslx_core.proofs.Lemmas.Typing.TypingRelations.{closed, every_item, function_is, instances_reach, item_so_named, den_reach, cyclic_is, whole_is}
+use Rattle.dslx_core.specs.Typing.TypingRelations.Reached.{AllNamed}
+use Rattle.dslx_core.proofs.Lemmas.Typing.TypingRelations.{function_is, item_so_named, whole_is}
 use Rattle.dslx_core.specs.Typing.Depends.Alike.{CalleeAlike, EnumAlike, FunctionAlike, GlobalsAgree, UseAlike}
-use Rattle.dslx_core.specs.Typing.Laws.Recursion.{HasNoCycle}
 use Rattle.dslx_core.specs.Typing.Depends.Settled.{BindsNoConstant}
 use Rattle.dslx_core.proofs.OnTyping.OnDepends.NoProcs.{IsNoProc, NoProcs, no_proc_in_block, no_proc_in_expression, no_proc_in_type, no_procs_join}
 use Rattle.dslx_core.proofs.OnTyping.OnDepends.OfItems as of
-use Rattle.dslx_core.proofs.OnTyping.OnDepends.OfItems.{Sight, Stage, mentions_pass, stage_sight}
+use Rattle.dslx_core.proofs.OnTyping.OnDepends.OfItems.{Sight}
 
 abbrev there : {A : Type 0} → Option A → Bool
 there None = false
@@ -227,15 +225,11 @@ module _ (P Q : List ℕ → Bool) (T : List ℕ → List ℕ → Bool) (m : Mod
     unbroken = λ k q. let r = own k.name q in of.unbroken_at P Q T m a b s k (reached k r.0) (found_at k r.0 r.1);
   }
 
--- ---- chains of items
+-- ---- procs
 
 -- the test, of what is no proc
 abbrev pub unless_proc : (List ℕ → Bool) → Module → List ℕ → Bool
 unless_proc R m name = R name && not (is_proc_item (item_named name m.items))
-
--- no proc, from which no chain has more than so many items
-abbrev pub passes : Module → ℕ → List ℕ → Bool
-passes m k = unless_proc (ends_within m k) m
 
 pub and_both : (p q : Bool) → (p && q) ≡ true → (p ≡ true) × (q ≡ true)
 and_both true q e = (refl, e)
@@ -270,9 +264,6 @@ all_no_procs R m (x ∷ ms) h e = by_use (is_of_use x.use_as (item_named x.name 
         let r = and_both (R x.name) (list_all R (names_mentioned m ms)) g in
         λ i. (r.0 i && no_proc_use x.use_as h.0 (item_named x.name m.items) q i) && rest r.1 i
     by_use false q g rest = rest g
-
-pub names_no_procs : (m : Module) (k : ℕ) (ms : List Mention) → NoProcs ms → list_all (ends_within m k) (names_mentioned m ms) ≡ true → list_all (passes m k) (names_mentioned m ms) ≡ true
-names_no_procs m k ms h e = all_no_procs (ends_within m k) m ms h e
 
 -- what isn't a proc mentions none
 type_if_none : (o : Option TypeExpr) (bound : List (List ℕ)) → NoProcs (type_if o bound)
@@ -319,18 +310,6 @@ definition_none (d.Enum x) e = no_procs_join (mentioned_in_type x.base []) (memb
 pub no_procs_mentioned : (R : List ℕ → Bool) (m : Module) (o : Option Definition) → is_proc_item o ≡ false → list_all R (mentions_of m o) ≡ true → list_all (unless_proc R m) (mentions_of m o) ≡ true
 no_procs_mentioned R m None e h = refl
 no_procs_mentioned R m (Some x) e h = all_no_procs R m (definition_mentions x) (definition_none x e) h
-
-pub passes_closed : (m : Module) (k : ℕ) → IsClosed (passes m k) m
-passes_closed m k name h =
-    let r = and_both (ends_within m k name) (not (is_proc_item (item_named name m.items))) h in
-    no_procs_mentioned (ends_within m k) m (item_named name m.items) (not_true (is_proc_item (item_named name m.items)) r.1) (closed m k name r.0)
-
--- one item more
-pub passes_next : (m : Module) (k : ℕ) (name : List ℕ) → passes m (suc k) name ≡ true → (list_all (passes m k) (mentions_of m (item_named name m.items)) ≡ true) × (is_proc_item (item_named name m.items) ≡ false)
-passes_next m k name h =
-    let r = and_both (ends_within m (suc k) name) (not (is_proc_item (item_named name m.items))) h in
-    let other = not_true (is_proc_item (item_named name m.items)) r.1 in
-    (no_procs_mentioned (ends_within m k) m (item_named name m.items) other r.0, other)
 
 -- ---- items of another kind
 
@@ -444,53 +423,3 @@ unused_alike m a b AsStruct name e = struct_unknown m a name e ∙ sym (struct_u
 pub unless_true : (t : Bool) → (t ≡ true → false ≡ true) → not t ≡ true
 unless_true true h = h refl
 unless_true false h = refl
-
--- ---- stages
-
--- at each stage the same is known by all chains that are as long
-pub stage : (m : Module) → BindsNoConstant m → (k a b : ℕ) → k ≤ a → k ≤ b → Stage (passes m k) m (globals_within m a) (globals_within m b)
-stage m plain zero a b p q = record {
-  text = whole_is m a;
-  known = record {
-    whole = whole_is m a ∙ sym (whole_is m b);
-    kinds = λ name. kind a name ∙ sym (kind b name);
-    cyclic = λ owner name. cyclic_is m a owner name ∙ sym (cyclic_is m b owner name);
-    sound = λ i e. absurd (true≢false (sym e));
-    unbroken = λ i e. absurd (true≢false (sym e));
-  };
-  uses = uses_none;
-  reach = λ owner ms h. den_reach (passes m zero) m (passes_closed m zero) a owner ms h;
-  reached = λ i h. instances_reach (passes m zero) m (passes_closed m zero) a i h;
-}
-  where
-    kind : (n : ℕ) (name : List ℕ) → (globals_within m n).items.is_constant name ≡ is_constant_item (item_named name m.items)
-    kind zero name = refl
-    kind (suc n) name = λ i. is_constant_item (item_named name (whole_is m n i).items)
-
-    uses_none : (u : Use) (name : List ℕ) → (is_of_use u (item_named name m.items) ≡ true → false ≡ true) → UseAlike (globals_within m a) (globals_within m b) u name
-    uses_none u name h = unused_alike m a b u name (not_true (is_of_use u (item_named name m.items)) (unless_true (is_of_use u (item_named name m.items)) h))
-stage m plain (suc k) zero b p q = absurd (nothing p)
-  where
-    nothing : suc k ≤ 0 → ⊥
-    nothing l = omega (arith, l)
-stage m plain (suc k) (suc a) zero p q = absurd (nothing q)
-  where
-    nothing : suc k ≤ 0 → ⊥
-    nothing l = omega (arith, l)
-stage m plain (suc k) (suc a) (suc b) p q =
-    let less : k ≤ a = omega (arith, p) in
-    let other : k ≤ b = omega (arith, q) in
-    let P = passes m k in
-    let stand = stage m plain k a b less other in
-    let s = stage_sight P m (globals_within m a) (globals_within m b) (passes_closed m k) stand in
-    record {
-      text = whole_is m (suc a);
-      known = globals_over_alike P (mentions_pass P m) (λ owner. P) m (globals_within m a) (globals_within m b) s (λ name q. q) plain stand.reached (passes m (suc k)) (passes_next m k);
-      uses = λ u name h. uses_over P (mentions_pass P m) (λ owner. P) m (globals_within m a) (globals_within m b) s (λ name q. q) plain u name (λ e. (passes_next m k name (h e)).0);
-      reach = λ owner ms h. den_reach (passes m (suc k)) m (passes_closed m (suc k)) (suc a) owner ms h;
-      reached = λ i h. instances_reach (passes m (suc k)) m (passes_closed m (suc k)) (suc a) i h;
-    }
-
--- each item that is no proc passes where chains have at most as many items as there are
-pub every_item_passes : (m : Module) → HasNoCycle m → (name : List ℕ) (x : Definition) → item_named name m.items ≡ Some x → is_proc_item (Some x) ≡ false → passes m (length m.items) name ≡ true
-every_item_passes m free name x q other = (λ i. every_item m free name x q i && not (is_proc_item (q i))) ∙ ap not other

@@ -1,5 +1,5 @@
 -- One item more on chains: what is known of it, where all that it mentions is known.
-use Rattle.std.proofs.Common.{◌*◌, ◌≡◌, ◌&&◌, ◌≤◌, ℕ, suc, Bool, true, false, not, List, [], ◌∷◌, map, length, Option, Some, None, arith, refl, sym, ap, subst, ◌∙◌}
+use Rattle.std.proofs.Common.{◌*◌, ◌≡◌, ◌≤◌, ℕ, suc, Bool, true, false, List, [], ◌∷◌, map, length, Option, Some, None, arith, refl, sym, ap, subst, ◌∙◌}
 use mathlib.Core.Bool.{true≢false}
 use Rattle.std.specs.List.{list_all}
 use Rattle.dslx_tree.specs.declared.item.Alias.{Alias}
@@ -8,9 +8,10 @@ use Rattle.dslx_tree.specs.declared.item.Definition.{Definition}
 use Rattle.dslx_tree.specs.declared.item.Definition.TheVariants as d
 use Rattle.dslx_tree.specs.declared.item.Enum.{Enum}
 use Rattle.dslx_tree.specs.declared.item.Field.{Field}
+use Rattle.dslx_tree.specs.declared.item.Function.{Function}
 use Rattle.dslx_tree.specs.declared.item.Module.{Module}
 use Rattle.dslx_tree.specs.declared.item.Struct.{Struct as StructItem}
-use Rattle.dslx_meaning.specs.Items.{as_constant, as_enum, as_struct, is_constant_item, item_named, member_named, name_of_definition, name_of_field}
+use Rattle.dslx_meaning.specs.Items.{as_constant, as_enum, as_function, as_struct, is_constant_item, item_named, member_named, name_of_definition, name_of_field}
 use Rattle.dslx_meaning.specs.Lists.{and_then}
 use Rattle.dslx_meaning.specs.Values.{type_of_value}
 use Rattle.dslx_meaning.specs.declared.ty.DslxType.{DslxType, out-DslxType}
@@ -19,8 +20,8 @@ use Rattle.dslx_meaning.specs.declared.ty.DslxType.TheOpen.{DslxType-F}
 use Rattle.dslx_meaning.specs.declared.ty.DslxType.TheViews as views
 use Rattle.dslx_meaning.specs.declared.value.DslxValue.{DslxValue}
 use Rattle.dslx_meaning.specs.Rules.ItemRules.{ConstantFound, TypeFound, alias_seen, constant_seen, enum_member_value, enum_seen, struct_seen}
-use Rattle.dslx_meaning.specs.Rules.TypeEnvs.{GlobalEnv}
-use Rattle.dslx_meaning.specs.Rules.Mentions.{AsEnum, AsStruct, AsType, AsValue, Use, definition_mentions, is_of_use, mentions_of, names_mentioned}
+use Rattle.dslx_meaning.specs.Rules.TypeEnvs.{GlobalEnv, has_broken}
+use Rattle.dslx_meaning.specs.Rules.Mentions.{AsEnum, AsStruct, AsType, AsValue, Mention, Use, definition_mentions, is_of_use, item_reaches, mentions_of, names_mentioned, parametric_names}
 use Rattle.dslx_meaning.specs.Rules.ModuleRules.{item_found, globals_of, globals_over, type_known}
 use Rattle.dslx_meaning.specs.Rules.NameRules.{has_member}
 use Rattle.dslx_core.specs.Typing.Typed.Complete.{IsComplete, IsStructKnown}
@@ -28,18 +29,20 @@ use Rattle.dslx_core.specs.Typing.Typed.Declared.{AllDeclared, Declarations, IsD
 use Rattle.dslx_core.specs.Typing.Typed.Given.{GivesOf, OwnTypes}
 use Rattle.dslx_core.specs.Typing.Typed.Kinds.{is_of}
 use Rattle.dslx_core.proofs.Lemmas.Typing.Typed.{none_some, same_some, struct_declared}
-use Rattle.dslx_core.specs.Typing.Laws.Recursion.{HasNoCycle}
-use Rattle.dslx_core.specs.Typing.TypingRelations.Closed.{ends_within}
-use Rattle.dslx_core.proofs.Lemmas.Typing.TypingRelations.{item_so_named, items_reach, longer, whole_is}
-use Rattle.dslx_core.specs.Typing.Depends.Alike.{UseAlike}
+use Rattle.dslx_core.specs.Typing.TypingRelations.Cycles.{AllUsed}
+use Rattle.dslx_core.proofs.Lemmas.Typing.TypingRelations.{item_so_named, items_reach, whole_is}
+use Rattle.dslx_core.specs.Typing.Depends.Alike.{TypesAlike, UseAlike}
 use Rattle.dslx_core.specs.Typing.Depends.Settled.{BindsNoConstant}
 use Rattle.dslx_core.proofs.Lemmas.Typing.Depends as of
-use Rattle.dslx_core.proofs.Lemmas.Typing.Depends.{all_alike, passes, passes_closed, passes_next, uses_settle}
+use Rattle.dslx_core.proofs.Lemmas.Typing.Depends.{all_alike, settles, settles_closed, uses_settle}
 use Rattle.dslx_core.specs.Typing.Complete.HasValue.{AliasHasType, AreTyped, ConstantHasValue, EnumHasType, IsWellTypedFound, StructHasType}
 use Rattle.dslx_core.proofs.Lemmas.Typing.Complete.{alias_has_type, constant_has_value, enum_has_type, struct_has_type}
 use Rattle.dslx_core.specs.Typing.GlobalEnv.Filled.{filled, filler_struct, filler_type}
 use Rattle.dslx_core.specs.Typing.GlobalEnv.WellTypedParts.{EachItemWellTyped}
 use Rattle.dslx_core.specs.Typing.GlobalEnv.Passing.{PassingHaveValues}
+use Rattle.dslx_core.proofs.Lemmas.Typing.Laws.Reaching.{reaches_on}
+use Rattle.dslx_core.proofs.OnTyping.OnCycles.OfItems.{uses_freely}
+use Rattle.dslx_core.proofs.OnTyping.OnCycles.OnText.{is_judged_alone, item_free}
 use Rattle.dslx_core.proofs.OnTyping.OnGlobals.Declaring.{DeclareNames, declared_by_both, named_enum, named_struct}
 use Rattle.dslx_core.proofs.OnTyping.OnGlobals.Filling.{filled_complete, filled_typed}
 use Rattle.dslx_core.proofs.OnTyping.OnGlobals.OnFilled.{other, pass, sight_filled, stage_filled}
@@ -104,15 +107,15 @@ none_own : (fs : List Field) (ts : List DslxType) → fs ≡ [] → OwnTypes (ma
 none_own fs [] e h = refl
 none_own fs (t ∷ ts) e h = absurd (subst (λ (xs : List Field). OwnTypes (map name_of_field xs) (t ∷ ts) (map name_of_field xs) (t ∷ ts)) e h)
 
-module _ (m : Module) (free : HasNoCycle m) (plain : BindsNoConstant m) (well_typed : EachItemWellTyped m) (k : ℕ) (stand : (w : ℕ) → PassingHaveValues w (passes m k) (globals_of m)) where
+module _ (m : Module) (plain : BindsNoConstant m) (well_typed : EachItemWellTyped m) (k : ℕ) (stand : (w : ℕ) → PassingHaveValues w (settles m k) (globals_of m)) where
   abbrev K : GlobalEnv
   K = globals_of m
 
   abbrev P : List ℕ → Bool
-  P = passes m k
+  P = settles m k
 
   abbrev Q : List ℕ → Bool
-  Q = passes m (suc k)
+  Q = settles m (suc k)
 
   abbrev F : ℕ → GlobalEnv
   F w = filled w P K
@@ -135,14 +138,56 @@ module _ (m : Module) (free : HasNoCycle m) (plain : BindsNoConstant m) (well_ty
   pub text : K.whole ≡ m
   text = whole_is m (2 * length m.items)
 
-  own : (name : List ℕ) → Q name ≡ true → Own name
-  own name q = (passes_next m k name q).0
+  -- an item that is judged by itself doesn't reach itself
+  pub free_at : (name : List ℕ) (x : Definition) → item_named name m.items ≡ Some x → is_judged_alone x ≡ true → item_reaches m name name ≡ false
+  free_at name x e alone = item_free m (2 * length m.items) name x e (ap has_broken (well_typed name x e).faults) alone
 
-  own_of : (name : List ℕ) (x : Definition) → item_named name m.items ≡ Some x → Q name ≡ true → Own (name_of_definition x)
-  own_of name x e q = of.own_again P (of.mentions_pass P m) (λ owner. P) m K (F 1) (sight_filled m 1 k) (λ z g. g) plain name x e (own name q)
+  own : (name : List ℕ) (x : Definition) → item_named name m.items ≡ Some x → is_judged_alone x ≡ true → Q name ≡ true → Own name
+  own name x e alone q = of.settles_next m k name q (free_at name x e alone)
 
-  pub mentions : (name : List ℕ) (x : Definition) → item_named name m.items ≡ Some x → Q name ≡ true → list_all P (names_mentioned m (definition_mentions x)) ≡ true
-  mentions name x e q = of.own_mentions P (of.mentions_pass P m) (λ owner. P) m K (F 1) (sight_filled m 1 k) (λ z g. g) plain name x e (own name q)
+  own_of : (name : List ℕ) (x : Definition) → item_named name m.items ≡ Some x → is_judged_alone x ≡ true → Q name ≡ true → Own (name_of_definition x)
+  own_of name x e alone q = of.own_again P (of.mentions_pass P m) (λ owner. P) m K (F 1) (sight_filled m 1 k) (λ z g. g) plain name x e (own name x e alone q)
+
+  mentions : (name : List ℕ) (x : Definition) → item_named name m.items ≡ Some x → is_judged_alone x ≡ true → Q name ≡ true → list_all P (names_mentioned m (definition_mentions x)) ≡ true
+  mentions name x e alone q = of.own_mentions P (of.mentions_pass P m) (λ owner. P) m K (F 1) (sight_filled m 1 k) (λ z g. g) plain name x e (own name x e alone q)
+
+  -- ---- what stands below an item, with something else in the place of those that don't pass
+
+  pub reads : of.Reads m K
+  reads = of.reads_level m (2 * length m.items)
+
+  pub reads_filled : (v : ℕ) → of.Reads m (F v)
+  reads_filled v = record { whole = reads.whole; kinds = reads.kinds; cyclic = reads.cyclic }
+
+  -- an enum that reaches an item that it is reached from would reach itself
+  pub no_enum_beside : (v : ℕ) (owner name : List ℕ) → Q owner ≡ true → item_reaches m owner name ≡ true → item_reaches m name owner ≡ true → (member : List ℕ) → K.items.member name member ≡ (F v).items.member name member
+  no_enum_beside v owner name h e back member =
+      let enums = (stage_filled m v k).uses AsEnum name (λ u. by_item (item_named name m.items) refl u) in
+      enums.members member
+    where
+      loops : item_reaches m name name ≡ true
+      loops = reaches_on m name owner name back e
+
+      by_item : (o : Option Definition) → item_named name m.items ≡ o → is_of_use AsEnum o ≡ true → P name ≡ true
+      by_item (Some (d.Enum x)) q u = absurd (true≢false (sym loops ∙ free_at name (d.Enum x) q refl))
+      by_item (Some (d.Alias x)) q u = absurd (true≢false (sym u))
+      by_item (Some (d.Struct x)) q u = absurd (true≢false (sym u))
+      by_item (Some (d.Constant x)) q u = absurd (true≢false (sym u))
+      by_item (Some (d.Function x)) q u = absurd (true≢false (sym u))
+      by_item (Some (d.Proc x)) q u = absurd (true≢false (sym u))
+      by_item None q u = absurd (true≢false (sym u))
+
+  pub sight_low : (v : ℕ) → of.Sight P Q (λ owner. P) m K (F v)
+  sight_low v = of.below_sight m P Q (settles_closed m k) (of.below_settles m k) K (F v) reads (reads_filled v) (stage_filled m v k) (no_enum_beside v)
+
+  -- what rule 3 doesn't refuse stands below
+  pub stands_below : (owner : List ℕ) (ms : List Mention) → list_all (of.is_reached_so m k owner) (names_mentioned m ms) ≡ true → AllUsed (uses_freely m owner) ms → list_all P (names_mentioned m ms) ≡ true
+  stands_below owner ms e u = of.below m P Q (settles_closed m k) (of.below_settles m k) K (F 1) reads (reads_filled 1) (stage_filled m 1 k) (no_enum_beside 1) owner ms e u
+
+  pub same_types : (v : ℕ) (f : Function) → item_named f.name.name m.items ≡ Some (d.Function f) → Q f.name.name ≡ true → TypesAlike (globals_over K) (globals_over (F v)) f.name.name
+  same_types v f is h =
+      of.function_types m P Q (settles_closed m k) (of.below_settles m k) K (F v) reads (reads_filled v) (stage_filled m v k) (no_enum_beside v) f is h
+      (of.plain_alike P m K (F v) (settles_closed m k) (stage_filled m v k) (parametric_names f.parametrics) (plain f.name.name f (ap as_function is)).0)
 
   -- longer chains say the same
   pub settle : (u : Use) (name : List ℕ) → UseAlike K (globals_over K) u name
@@ -158,37 +203,37 @@ module _ (m : Module) (free : HasNoCycle m) (plain : BindsNoConstant m) (well_ty
   here name x e = (λ i. item_named name (sym text i).items) ∙ e
 
   -- nothing is wrong with an item, with something else in the place of those that it doesn't mention
-  well_typed_filled : (w : ℕ) (name : List ℕ) (x : Definition) → item_named name m.items ≡ Some x → Q name ≡ true → item_found K x ≡ item_found (F w) x → IsWellTypedFound (F w) (item_found (F w) x)
-  well_typed_filled w name x e q same =
+  well_typed_filled : (w : ℕ) (name : List ℕ) (x : Definition) → item_named name m.items ≡ Some x → is_judged_alone x ≡ true → Q name ≡ true → item_found K x ≡ item_found (F w) x → IsWellTypedFound (F w) (item_found (F w) x)
+  well_typed_filled w name x e alone q same =
       let f = well_typed name x e in
       subst (IsWellTypedFound (F w)) same (record {
         faults = f.faults;
-        reached = sym (all_alike P K.is_sound (F w).is_sound (stage_filled m w k).known.sound (item_found K x).reached (items_reach P m (passes_closed m k) (2 * length m.items) x (mentions name x e q))) ∙ f.reached;
+        reached = sym (all_alike P K.is_sound (F w).is_sound (stage_filled m w k).known.sound (item_found K x).reached (items_reach P m (settles_closed m k) (2 * length m.items) x (mentions name x e alone q))) ∙ f.reached;
       })
 
   alias_same : (w : ℕ) (name : List ℕ) (x : Alias) → item_named name m.items ≡ Some (d.Alias x) → Q name ≡ true → alias_seen K x ≡ alias_seen (F w) x
-  alias_same w name x e q = of.alias_at P (of.mentions_pass P m) (λ owner. P) m K (F w) (sight_filled m w k) x (own_of name (d.Alias x) e q) (mentions name (d.Alias x) e q)
+  alias_same w name x e q = of.alias_at P (of.mentions_pass P m) (λ owner. P) m K (F w) (sight_filled m w k) x (own_of name (d.Alias x) e refl q) (mentions name (d.Alias x) e refl q)
 
   struct_same : (w : ℕ) (name : List ℕ) (x : StructItem) → item_named name m.items ≡ Some (d.Struct x) → Q name ≡ true → struct_seen K x ≡ struct_seen (F w) x
-  struct_same w name x e q = of.struct_at P (of.mentions_pass P m) (λ owner. P) m K (F w) (sight_filled m w k) x (own_of name (d.Struct x) e q) (mentions name (d.Struct x) e q)
+  struct_same w name x e q = of.struct_at P (of.mentions_pass P m) (λ owner. P) m K (F w) (sight_filled m w k) x (own_of name (d.Struct x) e refl q) (mentions name (d.Struct x) e refl q)
 
   enum_same : (w : ℕ) (name : List ℕ) (x : Enum) → item_named name m.items ≡ Some (d.Enum x) → Q name ≡ true → enum_seen K x ≡ enum_seen (F w) x
-  enum_same w name x e q = of.enum_at P (of.mentions_pass P m) (λ owner. P) m K (F w) (sight_filled m w k) x (own_of name (d.Enum x) e q) (mentions name (d.Enum x) e q)
+  enum_same w name x e q = of.enum_at P (of.mentions_pass P m) (λ owner. P) m K (F w) (sight_filled m w k) x (own_of name (d.Enum x) e refl q) (mentions name (d.Enum x) e refl q)
 
   constant_same : (w : ℕ) (name : List ℕ) (x : Constant) → item_named name m.items ≡ Some (d.Constant x) → Q name ≡ true → constant_seen K x ≡ constant_seen (F w) x
-  constant_same w name x e q = of.constant_item_at P (of.mentions_pass P m) (λ owner. P) m K (F w) (sight_filled m w k) x (own_of name (d.Constant x) e q) (mentions name (d.Constant x) e q)
+  constant_same w name x e q = of.constant_item_at P (of.mentions_pass P m) (λ owner. P) m K (F w) (sight_filled m w k) x (own_of name (d.Constant x) e refl q) (mentions name (d.Constant x) e refl q)
 
   alias_of : (w : ℕ) (name : List ℕ) (x : Alias) → item_named name m.items ≡ Some (d.Alias x) → Q name ≡ true → AliasHasType (F w) x
-  alias_of w name x e q = alias_has_type (F w) (complete w) (typed w) x (well_typed_filled w name (d.Alias x) e q (ap (λ (t : TypeFound). t.found) (alias_same w name x e q)))
+  alias_of w name x e q = alias_has_type (F w) (complete w) (typed w) x (well_typed_filled w name (d.Alias x) e refl q (ap (λ (t : TypeFound). t.found) (alias_same w name x e q)))
 
   struct_of : (w : ℕ) (name : List ℕ) (x : StructItem) → item_named name m.items ≡ Some (d.Struct x) → Q name ≡ true → StructHasType (F w) x
-  struct_of w name x e q = struct_has_type (F w) (complete w) (typed w) x (well_typed_filled w name (d.Struct x) e q (ap (λ (t : TypeFound). t.found) (struct_same w name x e q)))
+  struct_of w name x e q = struct_has_type (F w) (complete w) (typed w) x (well_typed_filled w name (d.Struct x) e refl q (ap (λ (t : TypeFound). t.found) (struct_same w name x e q)))
 
   enum_of : (w : ℕ) (name : List ℕ) (x : Enum) → item_named name m.items ≡ Some (d.Enum x) → Q name ≡ true → EnumHasType (F w) x
-  enum_of w name x e q = enum_has_type (F w) (complete w) (typed w) x (well_typed_filled w name (d.Enum x) e q (ap (λ (t : TypeFound). t.found) (enum_same w name x e q)))
+  enum_of w name x e q = enum_has_type (F w) (complete w) (typed w) x (well_typed_filled w name (d.Enum x) e refl q (ap (λ (t : TypeFound). t.found) (enum_same w name x e q)))
 
   constant_of_name : (w : ℕ) (name : List ℕ) (x : Constant) → item_named name m.items ≡ Some (d.Constant x) → Q name ≡ true → ConstantHasValue (F w) x
-  constant_of_name w name x e q = constant_has_value (F w) (complete w) (typed w) x (well_typed_filled w name (d.Constant x) e q (ap (λ (t : ConstantFound). t.found) (constant_same w name x e q)))
+  constant_of_name w name x e q = constant_has_value (F w) (complete w) (typed w) x (well_typed_filled w name (d.Constant x) e refl q (ap (λ (t : ConstantFound). t.found) (constant_same w name x e q)))
 
   -- ---- what is known of the name of each
 
@@ -209,9 +254,7 @@ module _ (m : Module) (free : HasNoCycle m) (plain : BindsNoConstant m) (well_ty
   -- ---- what is declared with either in the place of the others is so by what passes
 
   pub more : (name : List ℕ) → P name ≡ true → Q name ≡ true
-  more name p =
-      let r = of.and_both (ends_within m k name) (not (of.is_proc_item (item_named name m.items))) p in
-      λ i. longer m k name r.0 i && r.1 i
+  more name p = of.settles_longer m k name p
 
   abbrev item_at : List ℕ → Option Definition
   item_at name = item_named name K.whole.items
@@ -359,7 +402,7 @@ module _ (m : Module) (free : HasNoCycle m) (plain : BindsNoConstant m) (well_ty
       record {
         value = there.value;
         is = (settle AsEnum name).members member ∙ ap (λ o. and_then (as_enum o) (λ y. enum_member_value K y member (member_named member y.members))) (named name (d.Enum x) e)
-            ∙ of.named_member_at P (of.mentions_pass P m) (λ owner. P) m K (F 1) (sight_filled m 1 k) x (own_of name (d.Enum x) e q) (mentions name (d.Enum x) e q) member
+            ∙ of.named_member_at P (of.mentions_pass P m) (λ owner. P) m K (F 1) (sight_filled m 1 k) x (own_of name (d.Enum x) e refl q) (mentions name (d.Enum x) e refl q) member
             ∙ there.is;
         of = subst (λ u. is_of u there.value ≡ true) is there.of;
         declared = declared_next w name t q z;

@@ -1,5 +1,5 @@
 -- One function more on chains: what is known of it, where all that it mentions is known.
-use Rattle.std.proofs.Common.{◌*◌, ◌≡◌, ◌≤◌, ℕ, suc, Bool, true, false, if◌then◌else◌, List, [], ◌∷◌, ◌++◌, map, length, Option, Some, None, arith, refl, sym, ap, subst, ◌∙◌}
+use Rattle.std.proofs.Common.{◌*◌, ◌≡◌, ◌≤◌, ◌&&◌, ℕ, suc, Bool, true, false, not, if◌then◌else◌, List, [], ◌∷◌, ◌++◌, map, length, Option, Some, None, arith, refl, sym, ap, subst, ◌∙◌}
 use mathlib.Core.Bool.{true≢false}
 use Rattle.std.specs.List.{list_all}
 use Rattle.dslx_tree.specs.declared.expr.Expr.{Expr}
@@ -19,48 +19,66 @@ use Rattle.dslx_meaning.specs.declared.value.DslxValue.{DslxValue}
 use Rattle.dslx_meaning.specs.Rules.AggregateRules.{first_type_of}
 use Rattle.dslx_meaning.specs.Rules.CallRules.{parametric_type, known_before}
 use Rattle.dslx_meaning.specs.Rules.TypeRules.{unless_unit}
-use Rattle.dslx_meaning.specs.Rules.ConstantRules.{is_empty}
+use Rattle.dslx_meaning.specs.Rules.ConstantRules.{constant_of, is_empty}
 use Rattle.dslx_meaning.specs.Rules.ItemRules.{arguments_found, body_typing, arguments_typed, function_seen, function_type_env, item_type_env, typing_of_inner, typing_of_type, parametrics_found, result_typing}
-use Rattle.dslx_meaning.specs.Rules.TypeEnvs.{DefaultSeen, Instance, Judgement, GlobalEnv, Signature}
-use Rattle.dslx_meaning.specs.Rules.Mentions.{AsFunction, Mention, expr_if, item_reaches, mentioned, mentioned_in_type, names_mentioned, parametrics_mentions}
+use Rattle.dslx_meaning.specs.Rules.TypeEnvs.{DefaultSeen, ExprPair, Instance, Judgement, GlobalEnv, Signature, TypeEnv, has_broken}
+use Rattle.dslx_meaning.specs.Rules.Mentions.{AsFunction, Mention, expr_if, item_reaches, mentioned, mentioned_in_type, mentions_of, names_mentioned, parametric_names, parametrics_mentions}
 use Rattle.dslx_meaning.specs.Rules.ModuleRules.{declared_type, default_if, default_known, found_of_instance, found_of_item, globals_of, globals_over, signature_of, size_known, sound_instance}
 use Rattle.dslx_meaning.specs.Rules.NameRules.{local_name}
-use Rattle.dslx_core.specs.Typing.Laws.Recursion.{HasNoCycle}
-use Rattle.dslx_core.proofs.Lemmas.Typing.Laws.Chains.{never_loops}
+use Rattle.dslx_meaning.specs.Rules.NodeRules.{expr_pair}
 use Rattle.dslx_core.proofs.Lemmas.Typing.Laws.{AllGiven, given_agree, given_here, given_more, parametric_args_one, value_depends, written_type_depends}
 use Rattle.dslx_core.specs.Typing.Typed.Complete.{EachArgumentDeclared, EachParametricKnown, FitArguments, IsCallable, IsComplete, IsDefaultKnown, IsWellTypedPart, IsFunctionKnown, IsParametricKnown, signature_at}
 use Rattle.dslx_core.specs.Typing.Typed.Declared.{Declarations, IsDeclared}
 use Rattle.dslx_core.specs.Typing.Typed.Given.{GivesOf}
 use Rattle.dslx_core.specs.Typing.Typed.Numbers.{AllOwn, AreOwn, FitParametricArgs, ParametricMeans, ParametricsMean, values_behind}
 use Rattle.dslx_core.specs.Typing.Typed.WellTyped.{AreOperandsOf}
-use Rattle.dslx_core.proofs.Lemmas.Typing.Typed.{not_unit_is, parametric_is, own_bound, own_more, own_value, same_some}
+use Rattle.dslx_core.proofs.Lemmas.Typing.Typed.{none_some, not_unit_is, parametric_is, own_bound, own_more, own_value, same_some}
 use Rattle.dslx_core.proofs.Lemmas.Typing.Sound.{all_in, none_in}
 use Rattle.dslx_core.specs.Typing.TypingRelations.Reached.{AllNamed}
 use Rattle.dslx_core.proofs.Lemmas.Typing.TypingRelations.{all_weaker, default_reached, written_type_reaches}
-use Rattle.dslx_core.specs.Typing.Depends.Alike.{CalleeAlike, DeclaredAlike, FunctionAlike}
-use Rattle.dslx_core.specs.Typing.Depends.Settled.{BindsNoConstant}
+use Rattle.dslx_core.specs.Typing.Depends.Alike.{CalleeAlike, DeclaredAlike, FunctionAlike, NamesAlike, TypesAlike}
+use Rattle.dslx_core.specs.Typing.Depends.Settled.{AreNoConstants, BindsNoConstant}
 use Rattle.dslx_core.proofs.Lemmas.Typing.Depends as of
-use Rattle.dslx_core.proofs.Lemmas.Typing.Depends.{all_alike, call_unless, den_parts, passes, passes_closed, passes_next}
+use Rattle.dslx_core.proofs.Lemmas.Typing.Depends.{all_alike, call_unless, den_parts, settles, settles_closed}
 use Rattle.dslx_core.specs.Typing.Complete.HasValue.{AreTyped, IsWellTypedFound, ParametricHasValue}
 use Rattle.dslx_core.proofs.Lemmas.Typing.Complete.{inner_globals, instance_has_value, none_own, parametric_has_value}
 use Rattle.dslx_core.specs.Typing.GlobalEnv.Filled.{filled}
 use Rattle.dslx_core.specs.Typing.GlobalEnv.WellTypedParts.{EachItemWellTyped}
 use Rattle.dslx_core.specs.Typing.GlobalEnv.Passing.{PassingHaveValues}
+use Rattle.dslx_core.proofs.OnTyping.OnCycles.Joined.{written_type_judged}
+use Rattle.dslx_core.proofs.OnTyping.OnCycles.OfItems.{constant_passes, instance_broken, stands, uses_freely}
+use Rattle.dslx_core.proofs.OnTyping.OnCycles.Parts.{front}
+use Rattle.dslx_core.proofs.OnTyping.OnCycles.Untyped.{broken_constant_is_none, broken_type_is_none}
 use Rattle.dslx_core.proofs.OnTyping.OnGlobals.Next as of_next
 use Rattle.dslx_core.proofs.OnTyping.OnGlobals.OnFilled.{sight_filled, stage_filled}
 
-module _ (m : Module) (free : HasNoCycle m) (plain : BindsNoConstant m) (well_typed : EachItemWellTyped m) (k : ℕ) (stand : (w : ℕ) → PassingHaveValues w (passes m k) (globals_of m))
-    (G : GlobalEnv) (s : of.Stage (passes m (suc k)) m (globals_of m) G)
-    (carry : (t : DslxType) → IsDeclared (filled 1 (passes m k) (globals_of m)).items.type_named t → IsDeclared (filled 2 (passes m k) (globals_of m)).items.type_named t → IsDeclared G.items.type_named t)
-    (name : List ℕ) (f : Function) (is : item_named name m.items ≡ Some (d.Function f)) (q : passes m (suc k) name ≡ true) (alike : DeclaredAlike G (globals_of m) f.name.name) where
+-- a written type that is there breaks no rule, nor does a constant that has a value
+typed_is_whole : (context : TypeEnv) (x : TypeExpr) (t : DslxType) → (typing_of_type context x).ty ≡ Some t → has_broken (typing_of_type context x).faults ≡ false
+typed_is_whole context x t e = by_test (has_broken (typing_of_type context x).faults) refl
+  where
+    by_test : (b : Bool) → has_broken (typing_of_type context x).faults ≡ b → has_broken (typing_of_type context x).faults ≡ false
+    by_test true q = none_some t (sym (broken_type_is_none x context q) ∙ e)
+    by_test false q = q
+
+valued_is_whole : (context : TypeEnv) (x : ExprPair) (v : DslxValue) → (constant_of context x).value ≡ Some v → has_broken (constant_of context x).judgement.faults ≡ false
+valued_is_whole context x v e = by_test (has_broken (constant_of context x).judgement.faults) refl
+  where
+    by_test : (b : Bool) → has_broken (constant_of context x).judgement.faults ≡ b → has_broken (constant_of context x).judgement.faults ≡ false
+    by_test true q = none_some v (sym (broken_constant_is_none context x q) ∙ e)
+    by_test false q = q
+
+module _ (m : Module) (plain : BindsNoConstant m) (well_typed : EachItemWellTyped m) (k : ℕ) (stand : (w : ℕ) → PassingHaveValues w (settles m k) (globals_of m))
+    (G : GlobalEnv) (s : of.Stage (settles m (suc k)) m (globals_of m) G)
+    (carry : (t : DslxType) → IsDeclared (filled 1 (settles m k) (globals_of m)).items.type_named t → IsDeclared (filled 2 (settles m k) (globals_of m)).items.type_named t → IsDeclared G.items.type_named t)
+    (name : List ℕ) (f : Function) (is : item_named name m.items ≡ Some (d.Function f)) (q : settles m (suc k) name ≡ true) (alike : DeclaredAlike G (globals_of m) f.name.name) where
   abbrev K : GlobalEnv
   K = globals_of m
 
   abbrev P : List ℕ → Bool
-  P = passes m k
+  P = settles m k
 
   abbrev Q : List ℕ → Bool
-  Q = passes m (suc k)
+  Q = settles m (suc k)
 
   abbrev F : ℕ → GlobalEnv
   F v = filled v P K
@@ -71,50 +89,51 @@ module _ (m : Module) (free : HasNoCycle m) (plain : BindsNoConstant m) (well_ty
   abbrev next : Declarations
   next = G.items.type_named
 
+  -- all that is mentioned stands below, or below and beside
   abbrev ExprDen : List Mention → Type 0
   ExprDen ms = list_all P (names_mentioned m ms) ≡ true
 
+  abbrev T : List ℕ → List ℕ → Bool
+  T = of.is_reached_so m k
+
+  abbrev AllReached : List Mention → Type 0
+  AllReached ms = list_all (T f.name.name) (names_mentioned m ms) ≡ true
+
   complete : (v : ℕ) → IsComplete (F v)
-  complete v = of_next.complete m free plain well_typed k stand v
+  complete v = of_next.complete m plain well_typed k stand v
 
   typed : (v : ℕ) → AreTyped (F v)
-  typed v = of_next.typed m free plain well_typed k stand v
+  typed v = of_next.typed m plain well_typed k stand v
 
   more : (n : List ℕ) → P n ≡ true → Q n ≡ true
-  more n p = of_next.more m free plain well_typed k stand n p
+  more n p = of_next.more m plain well_typed k stand n p
 
   abbrev owner : List ℕ
   owner = f.name.name
 
   owner_in : Q owner ≡ true
-  owner_in = ap Q (of_next.again m free plain well_typed k stand name (d.Function f) is) ∙ q
+  owner_in = ap Q (of_next.again m plain well_typed k stand name (d.Function f) is) ∙ q
 
   named : item_named name K.whole.items ≡ Some (d.Function f)
-  named = of_next.named m free plain well_typed k stand name (d.Function f) is
-
-  parts : of.FunctionParts (λ owner. P) m f
-  parts = of.function_parts (λ owner. P) m f (of_next.mentions m free plain well_typed k stand name (d.Function f) is q)
-
-  -- what longer chains say, and what they say over either
-  long : FunctionAlike K (globals_over K) f
-  long = (of_next.settle m free plain well_typed k stand AsFunction name).function f (ap as_function named)
-
-  over : (v : ℕ) → CalleeAlike (globals_over K) (globals_over (F v)) name
-  over v = of.uses_over P (of.mentions_pass P m) (λ owner. P) m K (F v) (sight_filled m v k) (λ z g. g) plain AsFunction name (λ e. (passes_next m k name q).0)
-
-  short : (v : ℕ) → FunctionAlike (globals_over K) (globals_over (F v)) f
-  short v = (over v).function f (ap as_function named)
-
-  sound : (v : ℕ) (i : Instance) → Q i.name ≡ true → sound_instance K i ≡ sound_instance (F v) i
-  sound v i e = (of.globals_over_alike P (of.mentions_pass P m) (λ owner. P) m K (F v) (sight_filled m v k) (λ z g. g) plain (stage_filled m v k).reached Q (passes_next m k)).sound i e
-
-  -- ---- types and defaults of parametrics
+  named = of_next.named m plain well_typed k stand name (d.Function f) is
 
   owner_named : item_named owner m.items ≡ Some (d.Function f)
-  owner_named = of.named_again P (of.mentions_pass P m) (λ owner. P) m K (F 1) (sight_filled m 1 k) (λ z g. g) plain name (d.Function f) is
+  owner_named = subst (λ z. item_named z m.items ≡ Some (d.Function f)) (sym (of_next.again m plain well_typed k stand name (d.Function f) is)) is
 
   named_own : item_named owner K.whole.items ≡ Some (d.Function f)
-  named_own = of_next.named m free plain well_typed k stand owner (d.Function f) owner_named
+  named_own = of_next.named m plain well_typed k stand owner (d.Function f) owner_named
+
+  parts : of.FunctionParts T m f
+  parts = of.function_parts T m f ((λ t. list_all (T owner) (mentions_of m (sym owner_named t))) ∙ of.own_settles m k owner owner_in)
+
+  -- what longer chains say, and the types and values that they say over either
+  long : FunctionAlike K (globals_over K) f
+  long = (of_next.settle m plain well_typed k stand AsFunction name).function f (ap as_function named)
+
+  short : (v : ℕ) → TypesAlike (globals_over K) (globals_over (F v)) owner
+  short v = of_next.same_types m plain well_typed k stand v f owner_named owner_in
+
+  -- ---- types and defaults of parametrics
 
   -- behind these values so much is bound, and these parametrics are left
   abbrev Here : List (Option DslxValue) → List Given → List Parametric → Type 0
@@ -123,25 +142,70 @@ module _ (m : Module) (free : HasNoCycle m) (plain : BindsNoConstant m) (well_ty
   parameter_of : (before : List (Option DslxValue)) (so_far : List Given) (p : Parametric) (ps : List Parametric) → Here before so_far (p ∷ ps) → G.parameter_in owner before ≡ typing_of_inner (item_type_env K owner so_far) p.ty
   parameter_of before so_far p ps h = alike.parameter before ∙ long.declared.parameter before ∙ of.parameter_is owner (d.Function f) before so_far p ps h K named_own
 
-  parameter_over : (v : ℕ) (before : List (Option DslxValue)) (so_far : List Given) (p : Parametric) (ps : List Parametric) → Here before so_far (p ∷ ps)
-      → typing_of_inner (item_type_env K owner so_far) p.ty ≡ typing_of_inner (item_type_env (F v) owner so_far) p.ty
-  parameter_over v before so_far p ps h =
-      sym (of.parameter_is owner (d.Function f) before so_far p ps h K named_own) ∙ (short v).declared.parameter before ∙ of.parameter_is owner (d.Function f) before so_far p ps h (F v) named_own
+  parameter_type : (v : ℕ) (before : List (Option DslxValue)) (so_far : List Given) (p : Parametric) (ps : List Parametric) → Here before so_far (p ∷ ps)
+      → (typing_of_inner (item_type_env K owner so_far) p.ty).ty ≡ (typing_of_inner (item_type_env (F v) owner so_far) p.ty).ty
+  parameter_type v before so_far p ps h =
+      let ty_of = λ (j : Judgement). j.ty in
+      sym (ap ty_of (of.parameter_is owner (d.Function f) before so_far p ps h K named_own)) ∙ (short v).parameter before ∙ ap ty_of (of.parameter_is owner (d.Function f) before so_far p ps h (F v) named_own)
 
   default_of : (before : List (Option DslxValue)) (so_far : List Given) (p : Parametric) (ps : List Parametric) → Here before so_far (p ∷ ps) → G.default_in owner before ≡ default_if (item_type_env K owner so_far) p.default
   default_of before so_far p ps h = alike.default before ∙ long.declared.default before ∙ of.default_is owner (d.Function f) before so_far p ps h K named_own
-
-  default_over : (v : ℕ) (before : List (Option DslxValue)) (so_far : List Given) (p : Parametric) (ps : List Parametric) → Here before so_far (p ∷ ps)
-      → default_if (item_type_env K owner so_far) p.default ≡ default_if (item_type_env (F v) owner so_far) p.default
-  default_over v before so_far p ps h =
-      sym (of.default_is owner (d.Function f) before so_far p ps h K named_own) ∙ (short v).declared.default before ∙ of.default_is owner (d.Function f) before so_far p ps h (F v) named_own
 
   -- the signature of an instance
   signature_over : (v : ℕ) (parametric_args : List DslxValue)
       → signature_at G owner parametric_args ≡ signature_of (item_type_env (F v) owner (parametric_args_bound [] f.parametrics parametric_args)) (Some (d.Function f))
   signature_over v parametric_args =
       let values = values_behind [] parametric_args in
-      alike.signature values ∙ long.declared.signature values ∙ (short v).declared.signature values ∙ of.signature_is owner (d.Function f) parametric_args (F v) named_own
+      alike.signature values ∙ long.declared.signature values ∙ (short v).signature values ∙ of.signature_is owner (d.Function f) parametric_args (F v) named_own
+
+  -- ---- parts that break no rule
+
+  -- behind parametrics of these names, which have these values
+  record Left (names : List (List ℕ)) (so_far : List Given) (ps : List Parametric) : Type 0 where
+    given : AllGiven names so_far
+    covers : of.Covers names so_far []
+    plain_names : AreNoConstants m names
+    others : AreNoConstants m (parametric_names ps)
+    mentions : AllReached (parametrics_mentions ps names)
+
+  left_more : (names : List (List ℕ)) (so_far : List Given) (p : Parametric) (ps : List Parametric) → Left names so_far (p ∷ ps) → (x : DslxValue) → Left (p.name.name ∷ names) (with_number so_far p x) ps
+  left_more names so_far p ps l x = record {
+    given = ((x, given_here p.name.name x so_far), given_more names p.name.name x so_far l.given);
+    covers = of.covers_given names so_far [] p x l.covers;
+    plain_names = (l.others.0, l.plain_names);
+    others = l.others.1;
+    mentions = (den_parts (T owner) m (mentioned_in_type p.ty names ++ expr_if p.default names) (parametrics_mentions ps (p.name.name ∷ names)) l.mentions).1;
+  }
+
+  first_reached : (names : List (List ℕ)) (so_far : List Given) (p : Parametric) (ps : List Parametric) → Left names so_far (p ∷ ps) → AllReached (mentioned_in_type p.ty names) × AllReached (expr_if p.default names)
+  first_reached names so_far p ps l =
+      den_parts (T owner) m (mentioned_in_type p.ty names) (expr_if p.default names)
+      (den_parts (T owner) m (mentioned_in_type p.ty names ++ expr_if p.default names) (parametrics_mentions ps (p.name.name ∷ names)) l.mentions).0
+
+  hidden : (v : ℕ) (names : List (List ℕ)) → AreNoConstants m names → NamesAlike K (F v) names
+  hidden v names h = of.plain_alike P m K (F v) (settles_closed m k) (stage_filled m v k) names h
+
+  -- they mention what stands below
+  type_den : (names : List (List ℕ)) (so_far : List Given) (p : Parametric) (ps : List Parametric) → Left names so_far (p ∷ ps) → has_broken (typing_of_type (item_type_env K owner so_far) p.ty).faults ≡ false → ExprDen (mentioned_in_type p.ty names)
+  type_den names so_far p ps l w =
+      of_next.stands_below m plain well_typed k stand owner (mentioned_in_type p.ty names) (first_reached names so_far p ps l).0
+      (written_type_judged (uses_freely m owner) p.ty names (item_type_env K owner so_far) (stands m (2 * length m.items) owner names so_far (λ z g. (l.covers z g).0)) w)
+
+  default_den : (names : List (List ℕ)) (so_far : List Given) (p : Parametric) (ps : List Parametric) → Left names so_far (p ∷ ps) → (x : Expr) → p.default ≡ Some x
+      → has_broken (constant_of (item_type_env K owner so_far) (expr_pair x)).judgement.faults ≡ false → ExprDen (mentioned x names)
+  default_den names so_far p ps l x e w =
+      of_next.stands_below m plain well_typed k stand owner (mentioned x names) (subst (λ o. AllReached (expr_if o names)) e (first_reached names so_far p ps l).1)
+      (constant_passes m (2 * length m.items) owner names so_far (λ z g. (l.covers z g).0) x w)
+
+  parameter_over : (v : ℕ) (names : List (List ℕ)) (so_far : List Given) → AreNoConstants m names → (t : TypeExpr) → ExprDen (mentioned_in_type t names)
+      → typing_of_inner (item_type_env K owner so_far) t ≡ typing_of_inner (item_type_env (F v) owner so_far) t
+  parameter_over v names so_far h t e = of.inner_at P Q (λ z. P) m K (F v) (of_next.sight_low m plain well_typed k stand v) owner owner_in names (hidden v names h) t e so_far [] []
+
+  default_over : (v : ℕ) (names : List (List ℕ)) (so_far : List Given) → AreNoConstants m names → (x : Expr) → ExprDen (mentioned x names)
+      → default_known (item_type_env K owner so_far) x ≡ default_known (item_type_env (F v) owner so_far) x
+  default_over v names so_far h x e =
+      let c = of.constant_at P Q (λ z. P) m K (F v) (of_next.sight_low m plain well_typed k stand v) owner owner_in names (hidden v names h) x e so_far [] [] in
+      λ i. record { judgement = (c i).judgement; value = (c i).value }
 
   -- a part is judged with nothing wrong over either as it is by what passes
   well_typed_over : (v : ℕ) (j a b : Judgement) → j ≡ a → a ≡ b → AllNamed P a.reached → IsWellTypedPart G j → IsWellTypedPart (F v) b
@@ -161,16 +225,16 @@ module _ (m : Module) (free : HasNoCycle m) (plain : BindsNoConstant m) (well_ty
   same_written : (names : List (List ℕ)) (bound : List Given) → AllGiven names bound → (t : TypeExpr) → ExprDen (mentioned_in_type t names) → written_type t (env_of G bound) ≡ written_type t (env_of (F 1) bound)
   same_written names bound given t h =
       sym (written_type_depends t names (env_of K bound) (env_of G bound) (given_agree K.items G.items names bound given)
-      (of.agreeing Q m K G (passes_closed m (suc k)) s (mentioned_in_type t names) (wider (names_mentioned m (mentioned_in_type t names)) h) bound))
+      (of.agreeing Q m K G (settles_closed m (suc k)) s (mentioned_in_type t names) (wider (names_mentioned m (mentioned_in_type t names)) h) bound))
       ∙ written_type_depends t names (env_of K bound) (env_of (F 1) bound) (given_agree K.items (F 1).items names bound given)
-      (of.agreeing P m K (F 1) (passes_closed m k) (stage_filled m 1 k) (mentioned_in_type t names) h bound)
+      (of.agreeing P m K (F 1) (settles_closed m k) (stage_filled m 1 k) (mentioned_in_type t names) h bound)
 
   same_value : (names : List (List ℕ)) (bound : List Given) → AllGiven names bound → (e : Expr) → ExprDen (mentioned e names) → value_of e (env_of G bound) ≡ value_of e (env_of (F 1) bound)
   same_value names bound given e h =
       sym (value_depends e names (env_of K bound) (env_of G bound) (given_agree K.items G.items names bound given)
-      (of.agreeing Q m K G (passes_closed m (suc k)) s (mentioned e names) (wider (names_mentioned m (mentioned e names)) h) bound))
+      (of.agreeing Q m K G (settles_closed m (suc k)) s (mentioned e names) (wider (names_mentioned m (mentioned e names)) h) bound))
       ∙ value_depends e names (env_of K bound) (env_of (F 1) bound) (given_agree K.items (F 1).items names bound given)
-      (of.agreeing P m K (F 1) (passes_closed m k) (stage_filled m 1 k) (mentioned e names) h bound)
+      (of.agreeing P m K (F 1) (settles_closed m k) (stage_filled m 1 k) (mentioned e names) h bound)
 
   -- what is bound has values of types that both declare
   abbrev Bound : List Given → Type 0
@@ -179,7 +243,7 @@ module _ (m : Module) (free : HasNoCycle m) (plain : BindsNoConstant m) (well_ty
   declared_one : (v : ℕ) (before : List (Option DslxValue)) (so_far : List Given) (p : Parametric) (ps : List Parametric) (t : DslxType) → AreOwn (types v) so_far → Here before so_far (p ∷ ps) → (G.parameter_in owner before).ty ≡ Some t
       → (written_type p.ty (env_of (F v) so_far) ≡ Some t) × IsDeclared (types v) t
   declared_one v before so_far p ps t own h e =
-      (parametric_has_value (F v) (complete v) (typed v) owner p).means so_far t own (ap (λ (j : Judgement). j.ty) (sym (parameter_over v before so_far p ps h) ∙ sym (parameter_of before so_far p ps h)) ∙ e)
+      (parametric_has_value (F v) (complete v) (typed v) owner p).means so_far t own (sym (parameter_type v before so_far p ps h) ∙ ap (λ (j : Judgement). j.ty) (sym (parameter_of before so_far p ps h)) ∙ e)
 
   moved : (v : ℕ) (t : DslxType) (x : DslxValue) → IsDeclared (types v) t → GivesOf next t (Some x) → GivesOf (types v) t (Some x)
   moved v t x h g = record { value = g.value; is = g.is; of = g.of; declared = h }
@@ -197,8 +261,8 @@ module _ (m : Module) (free : HasNoCycle m) (plain : BindsNoConstant m) (well_ty
   type_reached : (names : List (List ℕ)) (so_far : List Given) (t : TypeExpr) → ExprDen (mentioned_in_type t names) → AllNamed P (typing_of_inner (item_type_env K owner so_far) t).reached
   type_reached names so_far t h = written_type_reaches P t names (item_type_env K owner so_far) ((stage_filled m 1 k).reach owner (mentioned_in_type t names) h)
 
-  default_reached_of : (names : List (List ℕ)) (p : Parametric) → ExprDen (expr_if p.default names) → (so_far : List Given) (x : Expr) → p.default ≡ Some x → AllNamed P (default_known (item_type_env K owner so_far) x).judgement.reached
-  default_reached_of names p h so_far x e = default_reached P (item_type_env K owner so_far) p.default names ((stage_filled m 1 k).reach owner (expr_if p.default names) h) x e
+  default_reached_of : (names : List (List ℕ)) (so_far : List Given) (x : Expr) → ExprDen (mentioned x names) → AllNamed P (default_known (item_type_env K owner so_far) x).judgement.reached
+  default_reached_of names so_far x h = default_reached P (item_type_env K owner so_far) (Some x) names ((stage_filled m 1 k).reach owner (mentioned x names) h) x refl
 
   default_both : (seen one two : DefaultSeen) → seen ≡ one → seen ≡ two → IsDefaultKnown (types 1) one → IsDefaultKnown (types 2) two → IsDefaultKnown next seen
   default_both seen one two x y a b =
@@ -220,24 +284,21 @@ module _ (m : Module) (free : HasNoCycle m) (plain : BindsNoConstant m) (well_ty
   abbrev Both : List (Option DslxValue) → List Given → List Parametric → Type 0
   Both before so_far ps = ParametricsMean G G.items owner before so_far ps × EachParametricKnown G owner before ps
 
-  front : (names : List (List ℕ)) (p : Parametric) (ps : List Parametric) → ExprDen (parametrics_mentions (p ∷ ps) names) → ExprDen (mentioned_in_type p.ty names ++ expr_if p.default names) × ExprDen (parametrics_mentions ps (p.name.name ∷ names))
-  front names p ps h = den_parts P m (mentioned_in_type p.ty names ++ expr_if p.default names) (parametrics_mentions ps (p.name.name ∷ names)) h
-
-  one_known : (names : List (List ℕ)) (before : List (Option DslxValue)) (so_far : List Given) → AllGiven names so_far → Bound so_far → (p : Parametric) (ps : List Parametric) → Here before so_far (p ∷ ps) → ExprDen (parametrics_mentions (p ∷ ps) names)
+  one_known : (names : List (List ℕ)) (before : List (Option DslxValue)) (so_far : List Given) (p : Parametric) (ps : List Parametric) → Left names so_far (p ∷ ps) → Bound so_far → Here before so_far (p ∷ ps)
       → ParametricMeans G G.items owner before so_far p × IsParametricKnown G owner before p
-  one_known names before so_far given own p ps a h = (means, globals_of_it)
+  one_known names before so_far p ps l own a = (means, globals_of_it)
     where
-      both : ExprDen (mentioned_in_type p.ty names) × ExprDen (expr_if p.default names)
-      both = den_parts P m (mentioned_in_type p.ty names) (expr_if p.default names) (front names p ps h).0
+      here : TypeEnv
+      here = item_type_env K owner so_far
 
       default_by : GlobalEnv → Option Expr → DefaultSeen
       default_by known o = default_if (item_type_env known owner so_far) o
 
-      at : (x : Expr) → p.default ≡ Some x → G.default_in owner before ≡ default_known (item_type_env K owner so_far) x
+      at : (x : Expr) → p.default ≡ Some x → G.default_in owner before ≡ default_known here x
       at x e = default_of before so_far p ps a ∙ ap (default_by K) e
 
-      to : (v : ℕ) (x : Expr) → p.default ≡ Some x → default_known (item_type_env K owner so_far) x ≡ default_known (item_type_env (F v) owner so_far) x
-      to v x e = ap (default_by K) (sym e) ∙ default_over v before so_far p ps a ∙ ap (default_by (F v)) e
+      shown : (v : ℕ) → Expr → DefaultSeen
+      shown v x = default_known (item_type_env (F v) owner so_far) x
 
       first : ParametricHasValue (F 1) owner p
       first = parametric_has_value (F 1) (complete 1) (typed 1) owner p
@@ -247,35 +308,41 @@ module _ (m : Module) (free : HasNoCycle m) (plain : BindsNoConstant m) (well_ty
 
       means : ParametricMeans G G.items owner before so_far p
       means = record {
-        types = λ t e. same_written names so_far given p.ty both.0 ∙ (declared_one 1 before so_far p ps t own.0 a e).0;
-        defaults = λ x v e z. same_value names so_far given x (subst (λ o. ExprDen (expr_if o names)) e both.1) ∙ first.default_means so_far x v (sym (ap (λ (c : DefaultSeen). c.value) (at x e ∙ to 1 x e)) ∙ z);
+        types = λ t e.
+            let there = ap (λ (j : Judgement). j.ty) (sym (parameter_of before so_far p ps a)) ∙ e in
+            same_written names so_far l.given p.ty (type_den names so_far p ps l (typed_is_whole here p.ty t there)) ∙ (declared_one 1 before so_far p ps t own.0 a e).0;
+        defaults = λ x v e z.
+            let value = λ (c : DefaultSeen). c.value in
+            let den = default_den names so_far p ps l x e (valued_is_whole here (expr_pair x) v (sym (ap value (at x e)) ∙ z)) in
+            same_value names so_far l.given x den ∙ first.default_means so_far x v (sym (ap value (at x e ∙ default_over 1 names so_far l.plain_names x den)) ∙ z);
       }
 
       globals_of_it : IsParametricKnown G owner before p
       globals_of_it = record {
         declared = λ t e. carry t (declared_one 1 before so_far p ps t own.0 a e).1 (declared_one 2 before so_far p ps t own.1 a e).1;
         typed = λ z.
-            let here = typing_of_inner (item_type_env K owner so_far) p.ty in
-            let there = typing_of_inner (item_type_env (F 1) owner so_far) p.ty in
-            let r = first.typed so_far own.0 (well_typed_over 1 (G.parameter_in owner before) here there (parameter_of before so_far p ps a) (parameter_over 1 before so_far p ps a) (type_reached names so_far p.ty both.0) z) in
-            (r.0, ap (λ (j : Judgement). j.ty) (parameter_of before so_far p ps a ∙ parameter_over 1 before so_far p ps a) ∙ r.1, r.2);
+            let none = ap has_broken (ap (λ (j : Judgement). j.faults) (sym (parameter_of before so_far p ps a)) ∙ z.faults) in
+            let den = type_den names so_far p ps l (front (typing_of_type here p.ty).faults _ none) in
+            let same = parameter_over 1 names so_far l.plain_names p.ty den in
+            let r = first.typed so_far own.0 (well_typed_over 1 (G.parameter_in owner before) (typing_of_inner here p.ty) (typing_of_inner (item_type_env (F 1) owner so_far) p.ty) (parameter_of before so_far p ps a) same (type_reached names so_far p.ty den) z) in
+            (r.0, ap (λ (j : Judgement). j.ty) (parameter_of before so_far p ps a ∙ same) ∙ r.1, r.2);
         default = λ x e z.
             let seen = λ (c : DefaultSeen). c.judgement in
-            let reached = default_reached_of names p both.1 so_far x e in
-            let here = default_known (item_type_env K owner so_far) x in
-            let over = λ (v : ℕ). default_known (item_type_env (F v) owner so_far) x in
-            default_both (G.default_in owner before) (over 1) (over 2) (at x e ∙ to 1 x e) (at x e ∙ to 2 x e)
-            (first.default so_far x own.0 (well_typed_over 1 (G.default_in owner before).judgement here.judgement (over 1).judgement (ap seen (at x e)) (ap seen (to 1 x e)) reached z))
-            (second.default so_far x own.1 (well_typed_over 2 (G.default_in owner before).judgement here.judgement (over 2).judgement (ap seen (at x e)) (ap seen (to 2 x e)) reached z));
+            let den = default_den names so_far p ps l x e (ap has_broken (ap (λ (c : DefaultSeen). c.judgement.faults) (sym (at x e)) ∙ z.faults)) in
+            let to = λ (v : ℕ). default_over v names so_far l.plain_names x den in
+            let reached = default_reached_of names so_far x den in
+            default_both (G.default_in owner before) (shown 1 x) (shown 2 x) (at x e ∙ to 1) (at x e ∙ to 2)
+            (first.default so_far x own.0 (well_typed_over 1 (G.default_in owner before).judgement (default_known here x).judgement (shown 1 x).judgement (ap seen (at x e)) (ap seen (to 1)) reached z))
+            (second.default so_far x own.1 (well_typed_over 2 (G.default_in owner before).judgement (default_known here x).judgement (shown 2 x).judgement (ap seen (at x e)) (ap seen (to 2)) reached z));
       }
 
-  parametric_args_known : (names : List (List ℕ)) (before : List (Option DslxValue)) (so_far : List Given) → AllGiven names so_far → Bound so_far → (ps : List Parametric) → Here before so_far ps → ExprDen (parametrics_mentions ps names) → Both before so_far ps
-  parametric_args_known names before so_far given own [] a h = (tt, tt)
-  parametric_args_known names before so_far given own (p ∷ ps) a h =
-      let it = one_known names before so_far given own p ps a h in
+  parametric_args_known : (names : List (List ℕ)) (before : List (Option DslxValue)) (so_far : List Given) (ps : List Parametric) → Left names so_far ps → Bound so_far → Here before so_far ps → Both before so_far ps
+  parametric_args_known names before so_far [] l own a = (tt, tt)
+  parametric_args_known names before so_far (p ∷ ps) l own a =
+      let it = one_known names before so_far p ps l own a in
       let rest = λ (t : DslxType) (x : DslxValue) (e : parametric_type G owner (known_before before) ≡ Some t) (g : GivesOf next t (Some x)).
-      parametric_args_known (p.name.name ∷ names) (Some x ∷ before) (with_number so_far p x) ((x, given_here p.name.name x so_far), given_more names p.name.name x so_far given) (behind before so_far p ps t x a own e g) ps
-      (of.stands_next owner (d.Function f) before so_far p ps x a) (front names p ps h).1 in
+      parametric_args_known (p.name.name ∷ names) (Some x ∷ before) (with_number so_far p x) ps (left_more names so_far p ps l x) (behind before so_far p ps t x a own e g)
+      (of.stands_next owner (d.Function f) before so_far p ps x a) in
       ((it.0, λ t x e g. (rest t x e g).0), (it.1, λ t x e g. (rest t x e g).1))
 
   own_both : (before : List (Option DslxValue)) (so_far : List Given) → Bound so_far → (ps : List Parametric) → Here before so_far ps → (parametric_args : List DslxValue) → FitParametricArgs G owner before ps parametric_args
@@ -367,11 +434,42 @@ module _ (m : Module) (free : HasNoCycle m) (plain : BindsNoConstant m) (well_ty
       sym (of.instances_settle m plain (2 * length m.items) (suc (2 * length m.items)) same longer (instance_of parametric_args) f (ap as_function owner_named)).0
       ∙ s.known.sound (instance_of parametric_args) owner_in ∙ e
 
+  -- an instance that is sound doesn't reach itself
+  free_here : (parametric_args : List DslxValue) → G.is_sound (instance_of parametric_args) ≡ true → item_reaches m owner owner ≡ false
+  free_here parametric_args e = by_loop (item_reaches m owner owner) refl
+    where
+      whole : (found_of_instance K (instance_of parametric_args)).faults ≡ []
+      whole =
+          let found = found_of_instance K (instance_of parametric_args) in
+          nothing_in found.faults (of.and_both (is_empty found.faults) (list_all K.is_sound found.reached) (sound_here parametric_args e)).0
+
+      by_loop : (b : Bool) → item_reaches m owner owner ≡ b → item_reaches m owner owner ≡ false
+      by_loop true r = absurd (true≢false (sym (instance_broken m (2 * length m.items) (instance_of parametric_args) f owner_named r) ∙ ap has_broken whole))
+      by_loop false r = r
+
+  own_here : (parametric_args : List DslxValue) → G.is_sound (instance_of parametric_args) ≡ true → list_all P (mentions_of m (item_named owner m.items)) ≡ true
+  own_here parametric_args e = of.settles_next m k owner owner_in (free_here parametric_args e)
+
+  parts_below : (parametric_args : List DslxValue) → G.is_sound (instance_of parametric_args) ≡ true → of.FunctionParts (λ z. P) m f
+  parts_below parametric_args e = of.function_parts (λ z. P) m f ((λ t. list_all P (mentions_of m (sym owner_named t))) ∙ own_here parametric_args e)
+
+  over : (v : ℕ) (parametric_args : List DslxValue) → G.is_sound (instance_of parametric_args) ≡ true → CalleeAlike (globals_over K) (globals_over (F v)) name
+  over v parametric_args e =
+      of.uses_over P (of.mentions_pass P m) (λ z. P) m K (F v) (sight_filled m v k) (λ z g. g) plain AsFunction name
+      (λ u. subst (λ z. of.mentions_pass P m z ≡ true) (of_next.again m plain well_typed k stand name (d.Function f) is) (own_here parametric_args e))
+
+  sound : (v : ℕ) (parametric_args : List DslxValue) → G.is_sound (instance_of parametric_args) ≡ true → sound_instance K (instance_of parametric_args) ≡ sound_instance (F v) (instance_of parametric_args)
+  sound v parametric_args e =
+      let R = of.mentions_pass P m in
+      (of.globals_over_alike P R (λ z. P) m K (F v) (sight_filled m v k) (λ z g. g) plain (stage_filled m v k).reached (of.unless_proc R m)
+      (λ z g. let r = of.and_both (R z) (not (of.is_proc_item (item_named z m.items))) g in (r.0, of.not_true (of.is_proc_item (item_named z m.items)) r.1))).sound
+      (instance_of parametric_args) (λ t. own_here parametric_args e t && not (of.is_proc_item (owner_named t)))
+
   instance_well_typed : (v : ℕ) (parametric_args : List DslxValue) → G.is_sound (instance_of parametric_args) ≡ true → IsWellTypedFound (F v) (function_seen (F v) f parametric_args).found
   instance_well_typed v parametric_args e =
       let found = found_of_instance (F v) (instance_of parametric_args) in
-      let both = of.and_both (is_empty found.faults) (list_all (F v).is_sound found.reached) (sym (sound v (instance_of parametric_args) owner_in) ∙ sound_here parametric_args e) in
-      let here : item_named owner K.whole.items ≡ Some (d.Function f) = of_next.named m free plain well_typed k stand owner (d.Function f) owner_named in
+      let both = of.and_both (is_empty found.faults) (list_all (F v).is_sound found.reached) (sym (sound v parametric_args e) ∙ sound_here parametric_args e) in
+      let here : item_named owner K.whole.items ≡ Some (d.Function f) = of_next.named m plain well_typed k stand owner (d.Function f) owner_named in
       subst (IsWellTypedFound (F v)) (ap (found_of_item (F v) parametric_args) here) (record { faults = nothing_in found.faults both.0; reached = both.1 })
 
   arguments_well_typed : (parametric_args : List DslxValue) → G.is_sound (instance_of parametric_args) ≡ true → IsWellTypedFound (F 1) (arguments_found (function_type_env (F 1) f parametric_args) [] f.arguments)
@@ -388,8 +486,9 @@ module _ (m : Module) (free : HasNoCycle m) (plain : BindsNoConstant m) (well_ty
       let r = all_in (F 1).is_sound arguments.reached (result.reached ++ body.reached) p.1 in
       record { faults = b.0; reached = r.0 }
 
-  loops : item_reaches K.whole name name ≡ false
-  loops = (λ i. item_reaches (of_next.text m free plain well_typed k stand i) name name) ∙ never_loops m free name
+  loops : (parametric_args : List DslxValue) → G.is_sound (instance_of parametric_args) ≡ true → item_reaches K.whole name name ≡ false
+  loops parametric_args e =
+      (λ i. item_reaches (of_next.text m plain well_typed k stand i) name name) ∙ subst (λ z. item_reaches m z z ≡ false) (of_next.again m plain well_typed k stand name (d.Function f) is) (free_here parametric_args e)
 
   -- a call is of the instance
   call_is : (parametric_args given operands : List DslxValue) → G.is_sound (instance_of parametric_args) ≡ true → all_parametric_args G.items (inferred_from f.arguments (map type_of_value operands)) [] f.parametrics given ≡ Some parametric_args
@@ -397,20 +496,20 @@ module _ (m : Module) (free : HasNoCycle m) (plain : BindsNoConstant m) (well_ty
   call_is parametric_args given operands e h =
       let inferred = inferred_from f.arguments (map type_of_value operands) in
       let ms = parametrics_mentions f.parametrics [] in
-      let one = parametric_args_one K.items (F 1).items inferred [] [] tt f.parametrics given (of.agreeing P m K (F 1) (passes_closed m k) (stage_filled m 1 k) ms parts.parametrics) in
-      let two = parametric_args_one K.items G.items inferred [] [] tt f.parametrics given (of.agreeing Q m K G (passes_closed m (suc k)) s ms (wider (names_mentioned m ms) parts.parametrics)) in
+      let one = parametric_args_one K.items (F 1).items inferred [] [] tt f.parametrics given (of.agreeing P m K (F 1) (settles_closed m k) (stage_filled m 1 k) ms (parts_below parametric_args e).parametrics) in
+      let two = parametric_args_one K.items G.items inferred [] [] tt f.parametrics given (of.agreeing Q m K G (settles_closed m (suc k)) s ms (wider (names_mentioned m ms) (parts_below parametric_args e).parametrics)) in
       sym ((s.uses AsFunction name (λ e. q)).call given operands)
-      ∙ (of_next.settle m free plain well_typed k stand AsFunction name).call given operands
-      ∙ (over 1).call given operands
-      ∙ ap (λ loops. call_unless loops (and_then (as_function (item_named name K.whole.items)) (λ g. call_of (F 1).items g given operands))) loops
+      ∙ (of_next.settle m plain well_typed k stand AsFunction name).call given operands
+      ∙ (over 1 parametric_args e).call given operands
+      ∙ ap (λ loops. call_unless loops (and_then (as_function (item_named name K.whole.items)) (λ g. call_of (F 1).items g given operands))) (loops parametric_args e)
       ∙ ap (λ o. and_then (as_function o) (λ g. call_of (F 1).items g given operands)) named
       ∙ ap (λ o. and_then o (λ ns. function_value (F 1).items f ns operands)) (sym one ∙ two ∙ h)
 
   -- so is the size of its body
-  size_is : (parametric_args : List DslxValue) → G.body_size (instance_of parametric_args) ≡ (function_seen (F 1) f parametric_args).body.size
-  size_is parametric_args =
-      let here : item_named owner K.whole.items ≡ Some (d.Function f) = of_next.named m free plain well_typed k stand owner (d.Function f) owner_named in
-      sym (((s.uses AsFunction name (λ e. q)).function f (ap as_function named)).size parametric_args) ∙ long.size parametric_args ∙ (short 1).size parametric_args ∙ ap (λ o. size_known (F 1) parametric_args (as_function o)) here
+  size_is : (parametric_args : List DslxValue) → G.is_sound (instance_of parametric_args) ≡ true → G.body_size (instance_of parametric_args) ≡ (function_seen (F 1) f parametric_args).body.size
+  size_is parametric_args e =
+      let here : item_named owner K.whole.items ≡ Some (d.Function f) = of_next.named m plain well_typed k stand owner (d.Function f) owner_named in
+      sym (((s.uses AsFunction name (λ e. q)).function f (ap as_function named)).size parametric_args) ∙ long.size parametric_args ∙ ((over 1 parametric_args e).function f (ap as_function named)).size parametric_args ∙ ap (λ o. size_known (F 1) parametric_args (as_function o)) here
 
   callable : (parametric_args : List DslxValue) → FitParametricArgs G owner [] f.parametrics parametric_args → G.is_sound (instance_of parametric_args) ≡ true → IsCallable G f name parametric_args
   callable parametric_args fit e =
@@ -430,12 +529,13 @@ module _ (m : Module) (free : HasNoCycle m) (plain : BindsNoConstant m) (well_ty
             record { value = g.value; is = call_is parametric_args given operands e h ∙ g.is; of = g.of; declared = declared };
         sized = λ operands fits.
             let n = one.sized operands (operands_of operands fits) in
-            (n.0, size_is parametric_args ∙ n.1);
+            (n.0, size_is parametric_args e ∙ n.1);
       }
 
   pub function_next : IsFunctionKnown G name f
   function_next =
-      let both = parametric_args_known [] [] [] tt none_bound f.parametrics all_left parts.parametrics in
+      let names = (plain owner f (ap as_function owner_named)).0 in
+      let both = parametric_args_known [] [] [] f.parametrics (record { given = tt; covers = λ z g. (refl, refl); plain_names = tt; others = names; mentions = parts.parametrics }) none_bound all_left in
       record {
         mean = both.0;
         parametrics = both.1;

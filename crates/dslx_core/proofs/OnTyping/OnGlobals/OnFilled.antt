@@ -11,10 +11,10 @@ use Rattle.dslx_meaning.specs.Rules.Mentions.{Use, AsValue, AsPattern, AsType, A
 use Rattle.dslx_meaning.specs.Rules.ModuleRules.{globals_of}
 use Rattle.dslx_core.proofs.Lemmas.Typing.TypingRelations.{function_is, instances_reach, item_so_named, den_reach, whole_is}
 use Rattle.dslx_core.specs.Typing.Depends.Alike.{FunctionAlike, UseAlike}
-use Rattle.dslx_core.proofs.Lemmas.Typing.Depends.{Sight, Stage, call_unknown, constant_unknown, member_unknown, mentions_pass, no_enum, no_function, passes, passes_closed, pattern_use, stage_sight, struct_unknown, type_unknown}
+use Rattle.dslx_core.proofs.Lemmas.Typing.Depends.{Sight, Stage, call_unknown, constant_unknown, member_unknown, mentions_pass, no_enum, no_function, settles, settles_closed, pattern_use, stage_sight, struct_unknown, type_unknown}
 use Rattle.dslx_core.specs.Typing.GlobalEnv.Filled.{constant_filler, filled, filler_type, member_filler, nothing_typed, refused, struct_filler}
 
--- what is known where a name passes, and what is filled in where it doesn't
+-- what is known where a name settles, and what is filled in where it doesn't
 pub pass : {X : Type 0} (b : Bool) (x y : X) → b ≡ true → x ≡ (if b then x else y)
 pass b x y e = λ i. if (sym e i) then x else y
 
@@ -62,7 +62,7 @@ module _ (m : Module) (w k : ℕ) where
   K = globals_of m
 
   abbrev P : List ℕ → Bool
-  P = passes m k
+  P = settles m k
 
   abbrev F : GlobalEnv
   F = filled w P K
@@ -145,9 +145,9 @@ module _ (m : Module) (w k : ℕ) where
       unbroken = λ i e. λ j. (sym e j) && K.is_unbroken i;
     };
     uses = each_use;
-    reach = λ owner ms h. den_reach P m (passes_closed m k) (2 * length m.items) owner ms h;
-    reached = λ i h. instances_reach P m (passes_closed m k) (2 * length m.items) i h;
+    reach = λ owner ms h. den_reach P m (settles_closed m k) (2 * length m.items) owner ms h;
+    reached = λ i h. instances_reach P m (settles_closed m k) (2 * length m.items) i h;
   }
 
   pub sight_filled : Sight P (mentions_pass P m) (λ owner. P) m K F
-  sight_filled = stage_sight P m K F (passes_closed m k) stage_filled
+  sight_filled = stage_sight P m K F (settles_closed m k) stage_filled

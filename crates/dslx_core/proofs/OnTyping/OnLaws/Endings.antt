@@ -1,10 +1,11 @@
 -- What an item means depends on the items that it mentions alone, so where no chain of mentions is longer than some number, it is
 -- reached in so many steps.
-use Rattle.std.proofs.Common.{◌≡◌, ◌==◌, ◌≤◌, ℕ, zero, suc, Bool, true, false, if◌then◌else◌, List, [], ◌∷◌, ◌++◌, map, length, Option, Some, None, refl, sym, ap, subst, ◌∙◌, arith}
+use Rattle.std.proofs.Common.{◌≡◌, ◌==◌, ◌≤◌, ◌&&◌, ℕ, zero, suc, Bool, true, false, if◌then◌else◌, List, [], ◌∷◌, ◌++◌, map, length, Option, Some, None, refl, sym, ap, subst, ◌∙◌, arith}
 use mathlib.Core.Bool.{true≢false}
 use Rattle.std.proofs.Math.Path.{fun_ext}
 use Rattle.std.specs.Prelude.{flat_map}
 use Rattle.std.specs.Str.{bytes_eq}
+use Rattle.std.specs.List.{list_all}
 use Rattle.std.proofs.lemmas.Slice.Eq.{bytes_eq-Decides}
 use Rattle.std.proofs.lemmas.Bool.Decides.{Decides-eqb}
 use Rattle.dslx_tree.specs.declared.expr.Expr.{Expr}
@@ -30,8 +31,9 @@ use Rattle.dslx_meaning.specs.declared.ty.DslxType as ty
 use Rattle.dslx_meaning.specs.declared.value.UntypedLiteral.{UntypedLiteral}
 use Rattle.dslx_meaning.specs.declared.value.DslxValue.{DslxValue}
 use Rattle.dslx_meaning.specs.Rules.Mentions.{Use, AsValue, AsPattern, AsType, AsFunction, AsProc, AsEnum, AsStruct, Mention, is_of_use, names_mentioned, mentions_of, definition_mentions, mentioned, mentioned_in_block, mentioned_in_type, parametrics_mentions, fields_mentions, type_if, expr_if, parametric_names, field_names}
-use Rattle.dslx_core.specs.Typing.Laws.Agreement.{MeansOne, AgreeOn}
+use Rattle.dslx_core.specs.Typing.Laws.Agreement.{AgreeOn, ItemMeansOne, MeansOne}
 use Rattle.dslx_core.specs.Typing.Laws.Recursion.{HasNoCycle}
+use Rattle.dslx_core.specs.Typing.TypingRelations.Closed.{ends_within}
 use Rattle.dslx_core.proofs.OnTyping.OnLaws.Agreeing.{NamesAgree, parts}
 use Rattle.dslx_core.proofs.OnTyping.OnLaws.Free.{value_depends, block_value_depends, written_type_depends}
 use Rattle.dslx_core.proofs.Lemmas.Typing.Laws.Chains.{OfEach, Ends, item_ends}
@@ -40,15 +42,6 @@ use Rattle.dslx_core.proofs.Lemmas.Typing.Laws.Chains.{OfEach, Ends, item_ends}
 
 abbrev within_items : Meanings → List Given → Env
 within_items x bound = record { items = x; bound = bound }
-
--- an item means one thing in both
-pub record ItemMeansOne (x y : Meanings) (name : List ℕ) : Type 0 where
-  pub types : x.type_named name ≡ y.type_named name
-  pub structs : x.struct_named name ≡ y.struct_named name
-  pub kind : x.is_constant name ≡ y.is_constant name
-  pub constants : x.constant name ≡ y.constant name
-  pub members : (member : List ℕ) → x.member name member ≡ y.member name member
-  pub calls : (parametric_args operands : List DslxValue) → x.call name parametric_args operands ≡ y.call name parametric_args operands
 
 -- what isn't of a kind means nothing of that kind
 pub record OfKinds (m : Module) (x : Meanings) : Type 0 where
@@ -77,7 +70,7 @@ no_struct x (Some (d.Proc p)) e = refl
 no_struct x (Some (d.Constant c)) e = refl
 no_struct x None e = refl
 
-no_kind : (o : Option Definition) → is_of_use AsPattern o ≡ false → i.is_constant_item o ≡ false
+pub no_kind : (o : Option Definition) → is_of_use AsPattern o ≡ false → i.is_constant_item o ≡ false
 no_kind (Some (d.Constant c)) e = absurd (true≢false e)
 no_kind (Some (d.Alias a)) e = refl
 no_kind (Some (d.Struct s)) e = refl
@@ -481,6 +474,40 @@ settles_so m x same (suc k) (suc b) name p h =
     subst (λ z. ItemMeansOne z (meanings_within m (suc b)) name) same
     (item_next m x (meanings_within m b) (over_itself m x same) (of_kinds m b) k name (λ next e. settles_so m x same k b next (omega arith) e) h)
 
+-- ---- items from which chains end
+
+turned : (x y : Meanings) (name : List ℕ) → ItemMeansOne x y name → ItemMeansOne y x name
+turned x y name h = record { types = sym h.types; structs = sym h.structs; kind = sym h.kind; constants = sym h.constants; members = λ a. sym (h.members a); calls = λ ns vs. sym (h.calls ns vs) }
+
+joined : (x y z : Meanings) (name : List ℕ) → ItemMeansOne x y name → ItemMeansOne y z name → ItemMeansOne x z name
+joined x y z name h k = record {
+  types = h.types ∙ k.types;
+  structs = h.structs ∙ k.structs;
+  kind = h.kind ∙ k.kind;
+  constants = h.constants ∙ k.constants;
+  members = λ a. h.members a ∙ k.members a;
+  calls = λ ns vs. h.calls ns vs ∙ k.calls ns vs;
+}
+
+each_so : (m : Module) (k : ℕ) (x y : Meanings) → ((next : List ℕ) → ends_within m k next ≡ true → ItemMeansOne x y next) → (names : List (List ℕ)) → list_all (ends_within m k) names ≡ true → OfEach (ItemMeansOne x y) names
+each_so m k x y next [] e = tt
+each_so m k x y next (n ∷ ns) e = by_first (ends_within m k n) refl e (each_so m k x y next ns)
+  where
+    by_first : (b : Bool) → ends_within m k n ≡ b → (b && list_all (ends_within m k) ns) ≡ true → (list_all (ends_within m k) ns ≡ true → OfEach (ItemMeansOne x y) ns) → OfEach (ItemMeansOne x y) (n ∷ ns)
+    by_first true q g rest = (next n q, rest g)
+    by_first false q g rest = absurd (true≢false (sym g))
+
+-- meanings that say the same one step further, of what doesn't reach itself, say of each item from which chains end what it means
+pub chains_mean : (m : Module) (x : Meanings) → OfKinds m x → ((k : ℕ) (name : List ℕ) → ends_within m k name ≡ true → ItemMeansOne (meanings_over m x) x name) → (k b : ℕ) (name : List ℕ) → k ≤ b → ends_within m k name ≡ true
+    → ItemMeansOne x (meanings_within m b) name
+chains_mean m x kinds over zero b name p h = absurd (true≢false (sym h))
+chains_mean m x kinds over (suc k) zero name p h = absurd (omega arith)
+chains_mean m x kinds over (suc k) (suc b) name p h =
+    let y = meanings_within m b in
+    joined x (meanings_over m x) (meanings_over m y) name (turned (meanings_over m x) x name (over (suc k) name h))
+    (item_over m x y name (agreeing_at m x y kinds (of_kinds m b) (item_named name m.items)
+    (each_so m k x y (λ next e. chains_mean m x kinds over k b next (omega arith) e) (mentions_of m (item_named name m.items)) h)))
+
 -- what means nothing means nothing
 nothing_one : (m : Module) (x y : Meanings) → OfKinds m x → OfKinds m y → (name : List ℕ) → item_named name m.items ≡ None → ItemMeansOne x y name
 nothing_one m x y p q name e = record {
@@ -509,7 +536,7 @@ every_name m free x y p q ending name = by_item (item_named name m.items) refl
     by_item (Some (d.Enum n)) e = ends AsEnum (ap (is_of_use AsEnum) e)
 
 -- meanings in which each name means one thing are one
-one_meaning : (x y : Meanings) → ((name : List ℕ) → ItemMeansOne x y name) → x ≡ y
+pub one_meaning : (x y : Meanings) → ((name : List ℕ) → ItemMeansOne x y name) → x ≡ y
 one_meaning x y every = λ j. record {
   type_named = types j;
   struct_named = structs j;

@@ -276,7 +276,7 @@ each_reached m owner (n ∷ ns) h =
     λ i. h n (or_first (bytes_eq n n) (list_any (bytes_eq n) ns) (itself n)) i && each_reached m owner ns (λ x q. h x (or_second (bytes_eq x n) (list_any (bytes_eq x) ns) q)) i
 
 -- an item's mentions are reached
-own_reached : (m : Module) (owner : List ℕ) (x : Definition) → item_named owner m.items ≡ Some x → list_all (item_reaches m owner) (names_mentioned m (definition_mentions x)) ≡ true
+pub own_reached : (m : Module) (owner : List ℕ) (x : Definition) → item_named owner m.items ≡ Some x → list_all (item_reaches m owner) (names_mentioned m (definition_mentions x)) ≡ true
 own_reached m owner x e = (λ i. list_all (item_reaches m owner) (mentions_of m (sym e i))) ∙ each_reached m owner (mentions_of m (item_named owner m.items)) (reaches_mentioned m owner)
 
 abbrev AllBelow : Module → ℕ → List ℕ → Type 0

@@ -33,3 +33,12 @@ AreBoundAlike (n ∷ ns) bound others = (given_in n bound ≡ given_in n others)
 -- what has the name of a constant is bound alike in both
 abbrev pub BindConstantsAlike : Meanings → List Given → List Given → Type 0
 BindConstantsAlike items bound others = (name : List ℕ) → items.is_constant name ≡ true → given_in name bound ≡ given_in name others
+
+-- an item means one thing in both, whatever it is
+pub record ItemMeansOne (x y : Meanings) (name : List ℕ) : Type 0 where
+  pub types : x.type_named name ≡ y.type_named name
+  pub structs : x.struct_named name ≡ y.struct_named name
+  pub kind : x.is_constant name ≡ y.is_constant name
+  pub constants : x.constant name ≡ y.constant name
+  pub members : (member : List ℕ) → x.member name member ≡ y.member name member
+  pub calls : (parametric_args operands : List DslxValue) → x.call name parametric_args operands ≡ y.call name parametric_args operands

@@ -1,16 +1,19 @@
-ghost use Rattle.dslx_core.specs.Typing.Depends.Alike.{SeesAlike, UseAlike, in_globals};
+ghost use Rattle.dslx_core.specs.Typing.Depends.Alike.{SeesAlike, TypesAlike, UseAlike, in_globals};
+ghost use Rattle.dslx_core.specs.Typing.Depends.Groups.{without_own};
 ghost use Rattle.dslx_core.specs.Typing.Depends.Settled.{BindsNoConstant};
 ghost use Rattle.dslx_meaning.specs.Items.{as_function, item_named};
 ghost use Rattle.dslx_meaning.specs.Rules.TypeEnvs.{Instance, GlobalEnv, TypeEnv};
 ghost use Rattle.dslx_meaning.specs.Rules.Mentions.{Use, mentioned, mentioned_in_block, mentioned_in_type};
-ghost use Rattle.dslx_meaning.specs.Rules.ModuleRules.{globals_within};
+ghost use Rattle.dslx_meaning.specs.Rules.ModuleRules.{globals_over, globals_within};
 ghost use Rattle.dslx_meaning.specs.Rules.NodeRules.{block_pair, expr_pair, type_pair};
 ghost use Rattle.dslx_tree.specs.declared.block.Block.{Block};
 ghost use Rattle.dslx_tree.specs.declared.expr.Expr.{Expr};
+ghost use Rattle.dslx_tree.specs.declared.item.Definition.TheVariants as definition;
 ghost use Rattle.dslx_tree.specs.declared.item.Function.{Function};
 ghost use Rattle.dslx_tree.specs.declared.item.Module.{Module};
+ghost use Rattle.dslx_tree.specs.declared.process.Proc.{Proc};
 ghost use Rattle.dslx_tree.specs.declared.type_expr.TypeExpr.{TypeExpr};
-ghost use Rattle.std.specs.Prelude.{◌≡◌, ◌≤◌, ◌*◌, Bool, List, ℕ, Some, length};
+ghost use Rattle.std.specs.Prelude.{◌≡◌, ◌≤◌, ◌*◌, Bool, List, ℕ, suc, Some, length};
 
 /// Where two global environments agree on what a part of a text mentions, on the enums that its item reaches, and on the
 /// constants that bound names hide, the part has one judgement by both: its type, what it breaks and passes, the instances
@@ -33,4 +36,13 @@ pub fn what_is_known_settles()
     ensures instances { (m : Module) → BindsNoConstant m → (a b : ℕ) → 2 * length m.items ≤ a → 2 * length m.items ≤ b
         → (i : Instance) (f : Function) → as_function (item_named i.name m.items) ≡ Some f
         → ((globals_within m a).is_sound i ≡ (globals_within m b).is_sound i) × ((globals_within m a).is_unbroken i ≡ (globals_within m b).is_unbroken i) }
+{}
+
+/// A part of a declaration sees types and values alone of its own group: where nothing is known of what those items declare that are
+/// the item or reach it, it has the same types of parametrics, values of defaults and signatures.
+pub fn a_group_sees_types_alone()
+    ensures of_function { (m : Module) (n : ℕ) (f : Function) → item_named f.name.name m.items ≡ Some (definition.Function f)
+        → TypesAlike (globals_within m (suc n)) (globals_over (without_own (globals_within m n) f.name.name)) f.name.name }
+    ensures of_proc { (m : Module) (n : ℕ) (p : Proc) → item_named p.name.name m.items ≡ Some (definition.Proc p)
+        → TypesAlike (globals_within m (suc n)) (globals_over (without_own (globals_within m n) p.name.name)) p.name.name }
 {}

@@ -1,11 +1,21 @@
 ghost use Rattle.dslx_core.specs.Typing.TypingRelations.Closed.{IsLeastClosed, IsOneOf, ReachOneAnother};
+ghost use Rattle.dslx_core.specs.Typing.TypingRelations.Called.{called};
+ghost use Rattle.dslx_core.specs.Typing.TypingRelations.Cycles.{AllUsed};
 ghost use Rattle.dslx_core.specs.Typing.TypingRelations.Reached.{AllNamed, IsClosed, MentionsReach};
+ghost use Rattle.dslx_core.specs.Typing.TypingRelations.Whole.{IsFunctionThere, IsItemThere, IsProcThere};
 ghost use Rattle.dslx_core.specs.Typing.Laws.Ranks.{is_above};
 ghost use Rattle.dslx_meaning.specs.Items.{item_named};
-ghost use Rattle.dslx_meaning.specs.Rules.TypeEnvs.{Instance, TypeEnv};
-ghost use Rattle.dslx_meaning.specs.Rules.Mentions.{mentioned, mentioned_in_block, mentioned_in_type, mentions_of, names_mentioned};
+ghost use Rattle.dslx_meaning.specs.Rules.TypeEnvs.{GlobalEnv, Instance, TypeEnv};
+ghost use Rattle.dslx_meaning.specs.Rules.ItemRules.{function_seen};
+ghost use Rattle.dslx_meaning.specs.Rules.ProcRules.{proc_seen};
+ghost use Rattle.dslx_tree.specs.declared.process.Proc.{Proc};
+ghost use Rattle.dslx_meaning.specs.declared.value.DslxValue.{DslxValue};
+ghost use Rattle.dslx_tree.specs.declared.item.Definition.TheVariants as definition;
+ghost use Rattle.dslx_tree.specs.declared.item.Function.{Function};
+ghost use Rattle.dslx_meaning.specs.Rules.Mentions.{definition_mentions, mentioned, mentioned_in_block, mentioned_in_type, mentions_of, names_mentioned};
 ghost use Rattle.dslx_meaning.specs.Rules.ModuleRules.{found_of_instance, instances_of, is_reached, item_found, globals_of, globals_within, outside_instances, own_instances, reached_within};
 ghost use Rattle.dslx_meaning.specs.Rules.NodeRules.{block_pair, expr_pair, type_pair};
+ghost use Rattle.dslx_meaning.specs.Rules.PatternRules.{is_there};
 ghost use Rattle.dslx_tree.specs.declared.block.Block.{Block};
 ghost use Rattle.dslx_tree.specs.declared.expr.Expr.{Expr};
 ghost use Rattle.dslx_tree.specs.declared.type_expr.TypeExpr.{TypeExpr};
@@ -20,6 +30,19 @@ pub fn what_is_reached_is_mentioned()
     ensures expression { (P : List ℕ → Bool) (e : Expr) (bound : List (List ℕ)) (on_top : Bool) (context : TypeEnv) → MentionsReach P context.known context.owner (mentioned e bound) → AllNamed P ((expr_pair e).1 on_top context).reached }
     ensures block { (P : List ℕ → Bool) (b : Block) (bound : List (List ℕ)) (on_top : Bool) (context : TypeEnv) → MentionsReach P context.known context.owner (mentioned_in_block b bound) → AllNamed P ((block_pair b).1 on_top context).reached }
     ensures written { (P : List ℕ → Bool) (t : TypeExpr) (bound : List (List ℕ)) (context : TypeEnv) → MentionsReach P context.known context.owner (mentioned_in_type t bound) → AllNamed P ((type_pair t).1 context).reached }
+{}
+
+/// What has a size, as what breaks no rule and knows all its parametrics has, reaches an instance of each function and each proc that it
+/// mentions: a test that the name of each instance passes that the part reaches is passed by the name of each of those. A written
+/// type does so where it is one, an instance of a function or a proc where all that it declares is there and its body has a size, and
+/// another item where it is known.
+pub fn what_is_sized_reaches_what_it_calls()
+    ensures expression { (P : List ℕ → Bool) (e : Expr) (bound : List (List ℕ)) (on_top : Bool) (context : TypeEnv) → is_there ((expr_pair e).1 on_top context).size ≡ true → AllNamed P ((expr_pair e).1 on_top context).reached → AllUsed (called P) (mentioned e bound) }
+    ensures block { (P : List ℕ → Bool) (b : Block) (bound : List (List ℕ)) (on_top : Bool) (context : TypeEnv) → is_there ((block_pair b).1 on_top context).size ≡ true → AllNamed P ((block_pair b).1 on_top context).reached → AllUsed (called P) (mentioned_in_block b bound) }
+    ensures written { (P : List ℕ → Bool) (t : TypeExpr) (bound : List (List ℕ)) (context : TypeEnv) → is_there ((type_pair t).1 context).ty ≡ true → AllNamed P ((type_pair t).1 context).reached → AllUsed (called P) (mentioned_in_type t bound) }
+    ensures function { (P : List ℕ → Bool) (known : GlobalEnv) (f : Function) (parametric_args : List DslxValue) → IsFunctionThere known f parametric_args → AllNamed P (function_seen known f parametric_args).found.reached → AllUsed (called P) (definition_mentions (definition.Function f)) }
+    ensures proc { (P : List ℕ → Bool) (known : GlobalEnv) (p : Proc) (parametric_args : List DslxValue) → IsProcThere known p parametric_args → AllNamed P (proc_seen known p parametric_args).reached → AllUsed (called P) (definition_mentions (definition.Proc p)) }
+    ensures item { (P : List ℕ → Bool) (known : GlobalEnv) (x : Definition) → IsItemThere known x → AllNamed P (item_found known x).reached → AllUsed (called P) (definition_mentions x) }
 {}
 
 /// In the text of a module, by chains of items of any length: where a test that the name of an item passes is passed by the

@@ -22,11 +22,11 @@ IsCountedBy m top p items =
 
 pub returns : goal.returns
 returns c m top free plain procs faults p e =
-    let well_typed = c.items_of_accepted_texts_are_well_typed.ensures.well_typed m top free plain faults in
+    let well_typed = c.items_of_accepted_texts_are_well_typed.ensures.well_typed m top plain faults in
     let denotation = c.items_of_accepted_texts_are_well_typed.ensures.denotation m top free plain faults in
-    let complete = c.all_items_are_known.ensures.complete m free plain well_typed in
-    let typed = c.all_items_are_known.ensures.typed m free plain well_typed in
-    let s = accepted m top free plain faults (c.instances_reach_one_another.ensures.text m top) (c.instances_reach_one_another.ensures.outside m top) in
+    let complete = c.all_items_are_known.ensures.complete m plain well_typed in
+    let typed = c.all_items_are_known.ensures.typed m plain well_typed in
+    let s = accepted m top plain faults (c.instances_reach_one_another.ensures.text m top) (c.instances_reach_one_another.ensures.outside m top) in
     let t = top_there m top s procs complete typed p e in
     let parametric_args = top_parametric_args (globals_of m).items p in
     let counted : IsCountedBy m top p (meanings_of m) = subst (IsCountedBy m top p) denotation

@@ -12,13 +12,12 @@ use Rattle.dslx_total.proofs.families.accepted_texts_are_well_typed.Goals as goa
 
 pub returns-clause-well_typed : goal.returns-clause-well_typed
 returns-clause-well_typed c = λ m top free plain procs accepted.
-    let well_typed = c.items_of_accepted_texts_are_well_typed.ensures.well_typed m top free plain accepted in
+    let well_typed = c.items_of_accepted_texts_are_well_typed.ensures.well_typed m top plain accepted in
     let denotation = c.items_of_accepted_texts_are_well_typed.ensures.denotation m top free plain accepted in
-    let complete = c.all_items_are_known.ensures.complete m free plain well_typed in
-    let typed = c.all_items_are_known.ensures.typed m free plain well_typed in
+    let complete = c.all_items_are_known.ensures.complete m plain well_typed in
+    let typed = c.all_items_are_known.ensures.typed m plain well_typed in
     let names = names_have_widths c.lower_total_expression.ensures.wide m (2 * length m.items) in
     let s : IsAccepted m top = record {
-      free = free;
       plain = plain;
       faults = accepted;
       among = c.instances_reach_one_another.ensures.text m top;

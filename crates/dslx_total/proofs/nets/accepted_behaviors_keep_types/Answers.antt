@@ -14,14 +14,14 @@ use Rattle.dslx_total.proofs.nets.accepted_behaviors_keep_types.Goals as goal
 
 pub returns : goal.returns
 returns c m top free plain procs faults =
-    let well_typed = c.items_of_accepted_texts_are_well_typed.ensures.well_typed m top free plain faults in
+    let well_typed = c.items_of_accepted_texts_are_well_typed.ensures.well_typed m top plain faults in
     let denotation = c.items_of_accepted_texts_are_well_typed.ensures.denotation m top free plain faults in
-    let complete = c.all_items_are_known.ensures.complete m free plain well_typed in
-    let typed = c.all_items_are_known.ensures.typed m free plain well_typed in
+    let complete = c.all_items_are_known.ensures.complete m plain well_typed in
+    let typed = c.all_items_are_known.ensures.typed m plain well_typed in
     let wide = names_have_widths type_is_wide m in
     let names = wide (2 * length m.items) in
     let full = names_are_full m wide (2 * length m.items) in
-    let s = accepted m top free plain faults (c.instances_reach_one_another.ensures.text m top) (c.instances_reach_one_another.ensures.outside m top) in
+    let s = accepted m top plain faults (c.instances_reach_one_another.ensures.text m top) (c.instances_reach_one_another.ensures.outside m top) in
     let words = c.words_of_ends_have_widths.ensures.values in
     let t = top_there m top faults in
     let p = t.0 in

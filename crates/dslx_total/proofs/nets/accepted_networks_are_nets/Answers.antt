@@ -24,11 +24,11 @@ use Rattle.dslx_total.proofs.nets.accepted_networks_are_nets.Goals as goal
 pub returns-clause-numbered : goal.returns-clause-numbered
 returns-clause-numbered c = λ m top free plain procs kept.
     let faults = c.networks_keep_the_limits.ensures.accepted m top kept in
-    let well_typed = c.items_of_accepted_texts_are_well_typed.ensures.well_typed m top free plain faults in
-    let complete = c.all_items_are_known.ensures.complete m free plain well_typed in
-    let typed = c.all_items_are_known.ensures.typed m free plain well_typed in
+    let well_typed = c.items_of_accepted_texts_are_well_typed.ensures.well_typed m top plain faults in
+    let complete = c.all_items_are_known.ensures.complete m plain well_typed in
+    let typed = c.all_items_are_known.ensures.typed m plain well_typed in
     let wide = names_have_widths type_is_wide m in
-    let s = accepted m top free plain faults (c.instances_reach_one_another.ensures.text m top) (c.instances_reach_one_another.ensures.outside m top) in
+    let s = accepted m top plain faults (c.instances_reach_one_another.ensures.text m top) (c.instances_reach_one_another.ensures.outside m top) in
     let nexts : (q : Proc) (args : List DslxValue) → IsThere m top s q args → (u : DslxType) → state_type_of (globals_of m).items q args ≡ Some u → IsWellTypedNext (globals_of m) q args u = λ q args there u is.
     let k = well_typed_proc m top s procs complete typed (wide (2 * length m.items)) c.words_of_ends_have_widths.ensures.values q args there in
     c.well_typed_procs_have_well_typed_nexts.ensures (globals_of m) complete typed q args k.own k.found k.words u is in
@@ -40,11 +40,11 @@ returns-clause-numbered c = λ m top free plain procs kept.
 pub returns-clause-named : goal.returns-clause-named
 returns-clause-named c = λ m top free plain procs slashes kept.
     let faults = c.networks_keep_the_limits.ensures.accepted m top kept in
-    let well_typed = c.items_of_accepted_texts_are_well_typed.ensures.well_typed m top free plain faults in
-    let complete = c.all_items_are_known.ensures.complete m free plain well_typed in
-    let typed = c.all_items_are_known.ensures.typed m free plain well_typed in
+    let well_typed = c.items_of_accepted_texts_are_well_typed.ensures.well_typed m top plain faults in
+    let complete = c.all_items_are_known.ensures.complete m plain well_typed in
+    let typed = c.all_items_are_known.ensures.typed m plain well_typed in
     let wide = names_have_widths type_is_wide m in
-    let s = accepted m top free plain faults (c.instances_reach_one_another.ensures.text m top) (c.instances_reach_one_another.ensures.outside m top) in
+    let s = accepted m top plain faults (c.instances_reach_one_another.ensures.text m top) (c.instances_reach_one_another.ensures.outside m top) in
     let nexts : (q : Proc) (args : List DslxValue) → IsThere m top s q args → (u : DslxType) → state_type_of (globals_of m).items q args ≡ Some u → IsWellTypedNext (globals_of m) q args u = λ q args there u is.
     let k = well_typed_proc m top s procs complete typed (wide (2 * length m.items)) c.words_of_ends_have_widths.ensures.values q args there in
     c.well_typed_procs_have_well_typed_nexts.ensures (globals_of m) complete typed q args k.own k.found k.words u is in

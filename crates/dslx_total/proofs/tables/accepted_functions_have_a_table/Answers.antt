@@ -13,17 +13,16 @@ use Rattle.dslx_total.proofs.tables.accepted_functions_have_a_table.Goals as goa
 pub returns : goal.returns
 returns c m top free plain accepted =
     let n = length m.items in
-    let well_typed = c.items_of_accepted_texts_are_well_typed.ensures.well_typed m top free plain accepted in
+    let well_typed = c.items_of_accepted_texts_are_well_typed.ensures.well_typed m top plain accepted in
     let denotation = c.items_of_accepted_texts_are_well_typed.ensures.denotation m top free plain accepted in
     let same : n ≤ n = omega arith in
     let can : CanLower (globals_of m) = record {
-      complete = c.all_items_are_known.ensures.complete m free plain well_typed;
-      typed = c.all_items_are_known.ensures.typed m free plain well_typed;
+      complete = c.all_items_are_known.ensures.complete m plain well_typed;
+      typed = c.all_items_are_known.ensures.typed m plain well_typed;
       types = λ name f e. types_typing (globals_of m) name f e ((c.what_is_known_settles.ensures.items m plain (2 * n) (suc (2 * n)) (omega arith) (omega arith) AsFunction name).function f e);
       widths = names_have_widths c.lower_total_expression.ensures.wide m (2 * n);
     } in
     let s : IsAccepted m top = record {
-      free = free;
       plain = plain;
       faults = accepted;
       among = c.instances_reach_one_another.ensures.text m top;

@@ -26,9 +26,9 @@ nexts_well_typed m same next (a ∷ as') h = (
 
 pub returns : goal.returns
 returns c m top design well_typed made =
-    let complete = c.all_items_are_known.ensures.complete m well_typed.free well_typed.plain well_typed.items in
-    let typed = c.all_items_are_known.ensures.typed m well_typed.free well_typed.plain well_typed.items in
-    let same = c.global_env_is_sound.ensures m well_typed.free well_typed.plain well_typed.items in
+    let complete = c.all_items_are_known.ensures.complete m well_typed.plain well_typed.items in
+    let typed = c.all_items_are_known.ensures.typed m well_typed.plain well_typed.items in
+    let same = c.global_env_is_sound.ensures.whole m well_typed.free well_typed.plain well_typed.items in
     let own = c.items_are_own.ensures m well_typed.free well_typed.plain well_typed.items in
     c.lower_preserves_designs.ensures m top design well_typed.free own made (record {
       known = globals_of m;

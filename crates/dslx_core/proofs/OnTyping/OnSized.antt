@@ -1,0 +1,8 @@
+-- sizes, types, names, and what stands alone
+pub mod Parts
+-- calls
+pub mod OfCalls
+-- the induction on trees
+pub mod Joined
+-- instances of functions
+pub mod OfItems
