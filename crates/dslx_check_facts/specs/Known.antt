@@ -13,7 +13,6 @@ use Rattle.dslx_tree.specs.declared.expr.Expr.{Expr}
 use Rattle.dslx_meaning.specs.Values.{type_of_value}
 use Rattle.dslx_meaning.specs.Meaning.{value_of}
 use Rattle.dslx_meaning.specs.Items.{item_named, as_constant, as_struct, as_enum, is_constant_item, meanings_of}
-use Rattle.dslx_meaning.specs.declared.ty.DslxType.{DslxType}
 use Rattle.dslx_meaning.specs.declared.value.DslxValue.{DslxValue}
 use Rattle.dslx_meaning.specs.Rules.TypeEnvs.{GlobalEnv, Instance, Judgement, TypeEnv, constant_env}
 use Rattle.dslx_meaning.specs.Rules.ConstantRules.{constant_of, constant_typing, is_sound_here}
@@ -86,9 +85,6 @@ by_groups f known = record known { is_cyclic = is_cyclic_named f }
 -- the type that an item names, the value of a constant, and the type of that
 abbrev pub named_type_at : Facts → ℕ → Option TypeId
 named_type_at f i = at_place f.named_types.items i
-
-abbrev pub kept_type_at : Facts → ℕ → Option DslxType
-kept_type_at f i = at_place f.kept.types.items i
 
 abbrev pub value_at : Facts → ℕ → Option DslxValue
 value_at f i = at_place f.kept.constants.items i
@@ -163,7 +159,6 @@ pub record FactsHold (f : Facts) (later : WalkShown) (known : GlobalEnv) : Type 
   pub not_enum : (name member : List ℕ) → as_enum (item_named name known.whole.items) ≡ None → known.items.member name member ≡ None
   -- of items that are judged
   pub type_named : (i : ℕ) → is_judged f i ≡ true → type_if (item_names f) later.rows (named_type_at f i) ≡ known.items.type_named ((item_names f).item i)
-  pub kept_type : (i : ℕ) → is_judged f i ≡ true → kept_type_at f i ≡ known.items.type_named ((item_names f).item i)
   pub struct_named : (i : ℕ) (s : Struct) → is_judged f i ≡ true → as_struct (item_at f i) ≡ Some s
       → type_if (item_names f) later.rows (named_type_at f i) ≡ known.items.struct_named ((item_names f).item i)
   pub constant : (i : ℕ) → is_judged f i ≡ true → value_at f i ≡ known.items.constant ((item_names f).item i)

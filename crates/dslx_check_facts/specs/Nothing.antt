@@ -4,13 +4,11 @@ use Rattle.dslx_check_facts.specs.declared.facts.Facts.{Facts}
 use Rattle.dslx_check_facts.specs.declared.facts.Kept.{Kept}
 use Rattle.dslx_check_facts.specs.Known.{at_place, done_at, foreign_at, is_judged, kept_member, named_type_at, text_of, value_type_at}
 
--- no value, no type and no member of an item is kept
+-- no value and no member of an item is kept
 pub record IsNothingKept (kept : Kept) : Type 0 where
   pub constants_size : length kept.constants.items ≡ length kept.items.text.now.items
-  pub types_size : length kept.types.items ≡ length kept.items.text.now.items
   pub members_size : length kept.members.items ≡ length kept.items.text.now.items
   pub constants : (i : ℕ) → at_place kept.constants.items i ≡ None
-  pub types : (i : ℕ) → at_place kept.types.items i ≡ None
   pub members : (i k : ℕ) → kept_member kept i k ≡ None
 
 -- nothing is known of an item, an instance or a part of a declaration

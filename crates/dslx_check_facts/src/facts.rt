@@ -8,7 +8,7 @@ ghost use Rattle.dslx_check_facts.specs.Nothing.{IsNothingKept, IsNothingKnown};
 
 use dslx_check_items::{ItemTable, Reaching, reaching_of};
 use dslx_check_rules::{Faults, TypeId};
-use dslx_meaning::{DslxType, DslxValue};
+use dslx_meaning::DslxValue;
 use dslx_tree::Module;
 use std::alloc::{AllocError, Global};
 
@@ -51,12 +51,11 @@ pub enum ForeignSeen {
     Signature(SignatureThere),
 }
 
-/// What constants are evaluated with: the values of constants and of the members of enums, and the types that items name.
+/// What constants are evaluated with: the values of constants and of the members of enums.
 #[derive(Drop)]
 pub struct Kept<'a> {
     pub items: ItemTable<'a>,
     pub constants: Vec<Option<DslxValue>>,
-    pub types: Vec<Option<DslxType>>,
     pub members: Vec<Vec<Option<DslxValue>>>,
 }
 
@@ -87,12 +86,10 @@ impl<'a> Kept<'a> {
     {
         let count = items.len() as usize;
         let constants = nothing_each(alloc, count)?;
-        let types = nothing_each(alloc, count)?;
         let members = no_members(alloc, count)?;
         Ok(Kept {
             items,
             constants,
-            types,
             members,
         })
     }
