@@ -94,10 +94,10 @@ each_spawn P Q f (config_statement.Channel c ∷ ms) h = each_spawn P Q f ms h
 each_spawn P Q f (config_statement.Spawn s ∷ ms) h = (f s h.0, each_spawn P Q f ms h.1)
 
 abbrev NextsLower : Module → Option (List ℕ) → List CoreInstance → Type 0
-NextsLower m top table = (p : Proc) (parametric_args : List DslxValue) → IsReachedProc m (meanings_of m) top p parametric_args → NextLowers m table p parametric_args
+NextsLower m top table = (p : Proc) (parametric_args : List DslxValue) → IsReachedProc m top p parametric_args → NextLowers m table p parametric_args
 
 abbrev ConfigsLower : Module → Option (List ℕ) → Type 0
-ConfigsLower m top = (p : Proc) (parametric_args : List DslxValue) → IsReachedProc m (meanings_of m) top p parametric_args → ConfigLowers m (meanings_of m) top p parametric_args
+ConfigsLower m top = (p : Proc) (parametric_args : List DslxValue) → IsReachedProc m top p parametric_args → ConfigLowers m (meanings_of m) top p parametric_args
 
 module _ (m : Module) (top : Option (List ℕ)) (limit : ℕ) (table : List CoreInstance) (is_table : IsTable m (meanings_of m) table) (few : length table ≤ limit) (nexts : NextsLower m top table) (configs : ConfigsLower m top) where
   -- behind these it becomes something
@@ -110,14 +110,14 @@ module _ (m : Module) (top : Option (List ℕ)) (limit : ℕ) (table : List Core
       of_text : as_proc (item_named i.name m.items) ≡ Some k.proc
       of_text = ap (λ name. as_proc (item_named name m.items)) (sym k.name) ∙ ap as_proc (k.checked).named
 
-      there : (s : Spawn) → SpawnsOneOf m (config_scope (meanings_of m) k.proc i.parametric_args) (names_of procs) s → HasItsInstance m (meanings_of m) (config_scope (meanings_of m) k.proc i.parametric_args) procs s
-      there s h target parametric_args is given own =
+      there : (s : Spawn) → SpawnsOneOf m (config_scope (meanings_of m) k.proc i.parametric_args) (names_of procs) s → HasItsInstance m (config_scope (meanings_of m) k.proc i.parametric_args) procs s
+      there s h target parametric_args is given =
           let stands = h target parametric_args is given in
           found_named procs 0 stands.0 (record { name = s.target.name; parametric_args = parametric_args }) stands.1
 
       config : (config : LoweredConfig) × (lower_config m (meanings_of m) procs k.proc i.parametric_args ≡ Some config)
       config = (configs k.proc i.parametric_args k.checked).becomes procs
-          (each_spawn (SpawnsOneOf m (config_scope (meanings_of m) k.proc i.parametric_args) (names_of procs)) (HasItsInstance m (meanings_of m) (config_scope (meanings_of m) k.proc i.parametric_args) procs) there (k.proc).config.config_statements k.spawns)
+          (each_spawn (SpawnsOneOf m (config_scope (meanings_of m) k.proc i.parametric_args) (names_of procs)) (HasItsInstance m (config_scope (meanings_of m) k.proc i.parametric_args) procs) there (k.proc).config.config_statements k.spawns)
 
       next : NextLowers m table k.proc i.parametric_args
       next = nexts k.proc i.parametric_args k.checked

@@ -25,7 +25,7 @@ SpawnsOneOf m scope before s = (target : Proc) (parametric_args : List DslxValue
 pub record CanBeNext (m : Module) (top : Option (List ℕ)) (before : List Instantiated) (i : Instantiated) : Type 0 where
   pub proc : Proc
   pub name : proc.name.name ≡ i.name
-  pub checked : IsReachedProc m (meanings_of m) top proc i.parametric_args
+  pub checked : IsReachedProc m top proc i.parametric_args
   pub new : StandsIn before i → ⊥
   pub spawns : EachSpawn (SpawnsOneOf m (config_scope (meanings_of m) proc i.parametric_args) before) proc.config.config_statements
 

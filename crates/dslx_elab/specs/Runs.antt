@@ -14,14 +14,12 @@ use Rattle.dslx_core.specs.Networks.Assembly.{IsDesignFrom}
 use Rattle.dslx_core.specs.Typing.Depends.Settled.{BindsNoConstant}
 use Rattle.dslx_core.specs.Typing.Laws.Recursion.{HasNoCycle}
 use Rattle.dslx_core.specs.declared.design.Design.{Design}
-use Rattle.dslx_total.specs.Families.Plain.{ProcsBindNoConstant}
 use Rattle.dslx_total.specs.Nets.Slashes.{EndsHaveNoSlash}
 
--- a text that isn't refused; no item of it reaches itself, and nothing binds the name of a constant, also where nothing calls or spawns it
+-- a text that isn't refused; no item of it reaches itself, and no function binds the name of a constant, also where nothing calls or spawns it
 pub record IsAcceptedText (m : Module) (top : Option (List ℕ)) : Type 0 where
   pub free : HasNoCycle m
   pub plain : BindsNoConstant m
-  pub procs : ProcsBindNoConstant m
   pub slashes : EndsHaveNoSlash m top
   pub none : refusal_of m top ≡ None
 

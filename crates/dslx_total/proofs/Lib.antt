@@ -12,6 +12,8 @@ pub mod OnInstances
 pub mod OnNets
 -- the same meaning, the same outcomes
 pub mod OnOutcomes
+-- parametric arguments of their own types
+pub mod OnOwn
 -- tables of functions
 pub mod OnTables
 -- words of channels

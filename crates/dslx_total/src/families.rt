@@ -12,18 +12,18 @@ ghost use Rattle.dslx_core.specs.Networks.Assembly.{IsDesignFrom};
 ghost use Rattle.dslx_total.specs.Tables.Tables.{FunctionsHaveTable};
 ghost use Rattle.dslx_total.specs.Texts.WellTypedTexts.{IsWellTypedText};
 ghost use Rattle.dslx_total.specs.Families.EachElaborated.{EachElaborated, NextLowers};
-ghost use Rattle.dslx_total.specs.Families.Plain.{ProcsBindNoConstant};
 
 /// Where no part of a text breaks a rule or passes a limit, its constants and types are well-typed, and so is each proc in
 /// its network: its parametrics have values of their own types, what it does is well-typed, and each word of its
-/// channels is a value. So a checked text that is made of its instances simulates it. No item may reach itself, no function bind
-/// the name of a constant and no proc by its parametrics, also where nothing calls or spawns it.
+/// channels is a value. So a checked text that is made of its instances simulates it. No item may reach itself and no function bind
+/// the name of a constant, also where nothing calls or spawns it.
 pub fn accepted_texts_are_well_typed()
-    ensures well_typed { (m : Module) (top : Option (List ℕ)) → HasNoCycle m → BindsNoConstant m → ProcsBindNoConstant m → faults_of m top ≡ [] → IsWellTypedText m top }
-    ensures stands { (m : Module) (top : Option (List ℕ)) (design : Design) → HasNoCycle m → BindsNoConstant m → ProcsBindNoConstant m → faults_of m top ≡ []
+    ensures well_typed { (m : Module) (top : Option (List ℕ)) → HasNoCycle m → BindsNoConstant m → faults_of m top ≡ [] → IsWellTypedText m top }
+    ensures stands { (m : Module) (top : Option (List ℕ)) (design : Design) → HasNoCycle m → BindsNoConstant m → faults_of m top ≡ []
         → IsDesignFrom m top design → CoreOf m top design }
 {
     dslx_core::typing::typing::instances_reach_one_another();
+    dslx_core::typing::typing::looping_items_mean_nothing();
     dslx_core::typing::known::all_items_are_known();
     dslx_core::typing::accepted::items_of_accepted_texts_are_well_typed();
     crate::expressions::lower_total_expression();
@@ -34,10 +34,11 @@ pub fn accepted_texts_are_well_typed()
 /// And the `next` of each proc in its network is lowered to steps and a next state, where the functions of its table are at hand; and
 /// its `init` has a value of the type of its state.
 pub fn lower_total_nexts()
-    ensures { (m : Module) (top : Option (List ℕ)) → HasNoCycle m → BindsNoConstant m → ProcsBindNoConstant m → faults_of m top ≡ [] → (functions : FunctionsHaveTable m top)
+    ensures { (m : Module) (top : Option (List ℕ)) → HasNoCycle m → BindsNoConstant m → faults_of m top ≡ [] → (functions : FunctionsHaveTable m top)
         → (p : Proc) → top_proc m top ≡ Some p → EachElaborated (NextLowers m functions.known.table) (family_of m p).procs }
 {
     dslx_core::typing::typing::instances_reach_one_another();
+    dslx_core::typing::typing::looping_items_mean_nothing();
     dslx_core::typing::known::all_items_are_known();
     dslx_core::typing::accepted::items_of_accepted_texts_are_well_typed();
     crate::expressions::lower_total_expression();

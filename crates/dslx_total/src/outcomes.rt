@@ -13,7 +13,6 @@ ghost use Rattle.dslx_core.specs.declared.design.Design.{Design};
 ghost use Rattle.dslx_core.specs.Networks.Assembly.{IsDesignFrom};
 ghost use Rattle.dslx_core.specs.Typing.Laws.Recursion.{HasNoCycle};
 ghost use Rattle.dslx_core.specs.Typing.Depends.Settled.{BindsNoConstant};
-ghost use Rattle.dslx_total.specs.Families.Plain.{ProcsBindNoConstant};
 
 /// Where a checked text simulates a text, and its network is one whose procs keep types, runs of the two have the same outcome,
 /// for all inputs, numbers of activations and depths: each channel carries the same words, and each proc ends in the same state
@@ -29,11 +28,11 @@ pub fn made_designs_have_the_same_outcomes()
 }
 
 /// So a text that isn't refused and a checked text that is made of its instances have the same outcome, for all inputs that fit the
-/// network's channels, numbers of activations and depths. No item may reach itself, no function bind the name of a constant and no
-/// proc by its parametrics, also where nothing calls or spawns it.
+/// network's channels, numbers of activations and depths. No item may reach itself and no function bind the name of a constant, also
+/// where nothing calls or spawns it.
 pub fn accepted_designs_have_the_same_outcomes()
     ensures { (m : Module) (top : Option (List ℕ)) (design : Design) (inputs : List (List Word)) (n : ℕ) (depths : List ℕ) →
-        HasNoCycle m → BindsNoConstant m → ProcsBindNoConstant m → refusal_of m top ≡ None → IsDesignFrom m top design → IsInputs (network_of m top) inputs → n < 2 ^ 32
+        HasNoCycle m → BindsNoConstant m → refusal_of m top ≡ None → IsDesignFrom m top design → IsInputs (network_of m top) inputs → n < 2 ^ 32
         → outcome_of (run_of (network_of m top) (behaviors_of m top) inputs n depths) (final_cut (run_of (network_of m top) (behaviors_of m top) inputs n depths))
         ≡ outcome_of (run_of (core_network design) (core_behaviors design) inputs n depths) (final_cut (run_of (core_network design) (core_behaviors design) inputs n depths)) }
 {

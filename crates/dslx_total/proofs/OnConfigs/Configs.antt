@@ -35,8 +35,8 @@ use Rattle.dslx_core.proofs.Lemmas.Typing.Accepted.{IsAccepted}
 use Rattle.dslx_core.specs.Lowering.CoreScopes.{CoreScope}
 use Rattle.dslx_core.specs.Networks.Configs.{ProcInstance, lower_channel, lower_child, lower_children, config_scope, lower_made, proc_instance_in, lower_spawn_parametrics}
 use Rattle.dslx_core.specs.Networks.Ends.{end_numbers, numbered_ends}
-use Rattle.dslx_total.specs.Families.Plain.{ProcsBindNoConstant}
 use Rattle.dslx_total.proofs.OnFamilies.Acts.{parts_well_typed}
+use Rattle.dslx_total.proofs.OnFamilies.Parametrics.{LoopsHaveNoValue}
 use Rattle.dslx_total.proofs.OnFamilies.Reached.{K, Listed, Passing, all, all_sound, reaching}
 use Rattle.dslx_total.proofs.OnFamilies.Spawns.{proc_named, spawn_there, well_behind}
 use Rattle.dslx_total.proofs.OnFamilies.There.{IsThere, well}
@@ -46,7 +46,7 @@ use Rattle.dslx_total.proofs.OnConfigs.Held.{AreNumbered, ParametricArgsThere, d
 use Rattle.dslx_total.proofs.OnConfigs.Texts.{TypesAreWritten, channel_there, given_there, none_made}
 
 -- what a depth mentions
-depth_none : (o : Option Arg) (bound : List (List ℕ)) → NoProcs (arg_if o bound)
+pub depth_none : (o : Option Arg) (bound : List (List ℕ)) → NoProcs (arg_if o bound)
 depth_none None bound = tt
 depth_none (Some a) bound = no_proc_in_arg a bound
 
@@ -62,7 +62,7 @@ constant_reaches P context e h = by_untyped (untyped_of e)
     by_untyped None = h
     by_untyped (Some number) = tt
 
-depth_reaches : (P : List ℕ → Bool) (context : TypeEnv) (o : Option Arg) (bound : List (List ℕ)) → MentionsReach P context.known context.owner (arg_if o bound) → AllNamed P (depth_found context o).reached
+pub depth_reaches : (P : List ℕ → Bool) (context : TypeEnv) (o : Option Arg) (bound : List (List ℕ)) → MentionsReach P context.known context.owner (arg_if o bound) → AllNamed P (depth_found context o).reached
 depth_reaches P context None bound h = tt
 depth_reaches P context (Some a) bound h = let e = (arg_pair a).1 in constant_reaches P context e (unmarked P (span_of e) (within context e) (argument_reaches P a bound false context h))
 
@@ -90,7 +90,7 @@ child_there m scope held procs s target parametric_args is given many ends k fou
       ∙ ap (λ b. where_true b (Some (record { instance = k; ends = ends.parametric_args }))) (ap (λ n. n == length target.config.ends) ends.many ∙ many),
 )
 
-module _ (m : Module) (top : Option (List ℕ)) (s : IsAccepted m top) (procs : ProcsBindNoConstant m) (complete : IsComplete (K m top s)) (typed : AreTyped (K m top s)) (written : TypesAreWritten) where
+module _ (m : Module) (top : Option (List ℕ)) (s : IsAccepted m top) (loops : LoopsHaveNoValue m) (complete : IsComplete (K m top s)) (typed : AreTyped (K m top s)) (written : TypesAreWritten) where
   abbrev known : GlobalEnv
   known = K m top s
 
@@ -120,8 +120,8 @@ module _ (m : Module) (top : Option (List ℕ)) (s : IsAccepted m top) (procs : 
     record StatementsLower (ms : List ConfigStatement) : Type 0 where
       made : List MadeChannel
       made_is : lower_made scope ms ≡ Some made
-      spawns : EachSpawn (SpawnsReached m known.items top scope) ms
-      children : (instances : List ProcInstance) → EachSpawn (HasItsInstance m known.items scope instances) ms → (cs : List Child) × (lower_children m scope held instances ms ≡ Some cs)
+      spawns : EachSpawn (SpawnsReached m top scope) ms
+      children : (instances : List ProcInstance) → EachSpawn (HasItsInstance m scope instances) ms → (cs : List Child) × (lower_children m scope held instances ms ≡ Some cs)
 
     -- a channel reaches sound instances
     channel_sound : (made : Made) (c : Channel) → Listed m top s (channel_found context made c).reached → list_all known.is_sound (channel_found context made c).reached ≡ true
@@ -157,7 +157,7 @@ module _ (m : Module) (top : Option (List ℕ)) (s : IsAccepted m top) (procs : 
         let unknown = unknown_ends made.names sp.ends in
         let spawned = spawn_of context made sp given (as_proc (item_named sp.target.name known.whole.items)) in
         let declared = (none_in unknown spawned.faults (none_in (faults_of_all (given_judgements given)) (unknown ++ spawned.faults) a.0).1).0 in
-        let t = spawn_there m top s procs complete typed p parametric_args sees made sp bound a.0 b.0 in
+        let t = spawn_there m top s loops complete typed p parametric_args sees made sp bound a.0 b.0 in
         let gives = given_there known p parametric_args none_made sees t.target sp.arguments ∙ t.given in
         let ends = parametric_args_there held made.names (λ name q. named name (stays name context made ms q)) sp.ends declared in
         let rest = config_statements_become made ms named a.1 b.1 in
@@ -170,12 +170,12 @@ module _ (m : Module) (top : Option (List ℕ)) (s : IsAccepted m top) (procs : 
               is = t.is;
               parametric_args = t.parametric_args;
               given = gives;
-              checked = record { named = proc_named m sp.target.name t.target t.is; checked = t.among; own = t.own };
+              checked = record { named = proc_named m sp.target.name t.target t.is; checked = t.among };
             },
             rest.spawns,
           );
           children = λ instances k.
-              let found = k.0 t.target t.parametric_args t.is gives t.own in
+              let found = k.0 t.target t.parametric_args t.is gives in
               let first = child_there m scope held instances sp t.target t.parametric_args t.is gives t.many ends found.0 found.1 in
               let others = rest.children instances k.1 in
               (first.0 ∷ others.0, put_both (lower_child m scope held instances sp) (lower_children m scope held instances ms) first.0 others.0 first.1 others.1);

@@ -25,8 +25,8 @@ use Rattle.dslx_core.proofs.Lemmas.Typing.Complete.{item_env}
 use Rattle.dslx_core.proofs.Lemmas.Typing.Accepted.{IsAccepted, one_of_these}
 use Rattle.dslx_core.specs.Networks.Configs.{config_scope}
 use Rattle.dslx_core.specs.Networks.Assembly.{lower_outer}
-use Rattle.dslx_total.specs.Families.Plain.{ProcsBindNoConstant}
 use Rattle.dslx_total.proofs.OnFamilies.Acts.{parts_well_typed}
+use Rattle.dslx_total.proofs.OnFamilies.Parametrics.{LoopsHaveNoValue}
 use Rattle.dslx_total.proofs.OnFamilies.Reached.{K, Passing, all, all_sound, ends_none, reaching}
 use Rattle.dslx_total.proofs.OnFamilies.There.{IsThere, well}
 use Rattle.dslx_total.proofs.OnFamilies.Tops.{top_there}
@@ -49,7 +49,7 @@ each_outer written known p parametric_args h before (e ∷ es) f r =
     let first : Outer = record { name = e.name.name; ty = plain_type t.ty; kind = kind_of_end e.direction } in
     (first ∷ others.0, (λ i. and_then (t.is i) (λ u. Some (record { name = e.name.name; ty = plain_type u; kind = kind_of_end e.direction })) ∷ others.1 i))
 
-module _ (m : Module) (top : Option (List ℕ)) (s : IsAccepted m top) (procs : ProcsBindNoConstant m) (complete : IsComplete (K m top s)) (typed : AreTyped (K m top s)) (written : TypesAreWritten) where
+module _ (m : Module) (top : Option (List ℕ)) (s : IsAccepted m top) (loops : LoopsHaveNoValue m) (complete : IsComplete (K m top s)) (typed : AreTyped (K m top s)) (written : TypesAreWritten) where
   abbrev known : GlobalEnv
   known = K m top s
 
@@ -58,7 +58,7 @@ module _ (m : Module) (top : Option (List ℕ)) (s : IsAccepted m top) (procs : 
 
   pub top_lowers_to : (p : Proc) → top_proc m top ≡ Some p → TopLowers m known.items top p
   top_lowers_to p e =
-      let t = top_there m top s procs complete typed p e in
+      let t = top_there m top s loops complete typed p e in
       let parametric_args = top_parametric_args known.items p in
       let there : IsThere m top s p parametric_args = record { checked = record { named = t.named; among = one_of_these (record { name = p.name.name; parametric_args = parametric_args }) (all m top s) t.among }; own = t.own } in
       let context = proc_type_env known p parametric_args in
@@ -73,7 +73,7 @@ module _ (m : Module) (top : Option (List ℕ)) (s : IsAccepted m top) (procs : 
       let named = found_ends (Passing m top s) context [] p.config.ends bound (reaching m top s context.owner (ends_mentions p.config.ends bound) (ends_none p.config.ends bound)) in
       let os = each_outer written known p parametric_args (well m top s complete typed p parametric_args there) [] p.config.ends f (all_sound m top s outer.reached named r) in
       record {
-        checked = record { named = t.named; checked = t.among; own = t.own };
+        checked = record { named = t.named; checked = t.among };
         outer = os.0;
         outers = ap all_some os.1 ∙ all_are os.0;
       }

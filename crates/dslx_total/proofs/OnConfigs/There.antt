@@ -1,8 +1,7 @@
 -- Instances of procs that are reached in a text without faults are checked.
-use Rattle.std.proofs.Common.{◌≡◌, ℕ, true, List, [], Option, subst, sym}
+use Rattle.std.proofs.Common.{◌≡◌, ℕ, true, List, [], Option}
 use Rattle.dslx_tree.specs.declared.item.Module.{Module}
 use Rattle.dslx_tree.specs.declared.process.Proc.{Proc}
-use Rattle.dslx_meaning.specs.Environment.{Meanings}
 use Rattle.dslx_meaning.specs.declared.value.DslxValue.{DslxValue}
 use Rattle.dslx_meaning.specs.Rules.TypeEnvs.{Instance}
 use Rattle.dslx_meaning.specs.Rules.ModuleRules.{faults_of, instances_of, is_reached, globals_of, outside_instances}
@@ -19,8 +18,8 @@ pub accepted : (m : Module) (top : Option (List ℕ)) → BindsNoConstant m → 
     → ((i : Instance) → IsOneOf i (outside_instances m top).reached → is_reached i (instances_of m top) ≡ true) → IsAccepted m top
 accepted m top plain faults among outside = record { plain = plain; faults = faults; among = among; outside = outside }
 
-pub is_there : (m : Module) (top : Option (List ℕ)) (s : IsAccepted m top) (items : Meanings) → (K m top s).items ≡ items → (p : Proc) (parametric_args : List DslxValue) → IsReachedProc m items top p parametric_args → IsThere m top s p parametric_args
-is_there m top s items denotation p parametric_args h = record {
-  checked = record { named = h.named; among = one_of_these (record { name = p.name.name; parametric_args = parametric_args }) (all m top s) h.checked };
-  own = subst (λ (x : Meanings). AllOwn x.type_named parametric_args) (sym denotation) h.own;
-}
+pub is_there : (m : Module) (top : Option (List ℕ)) (s : IsAccepted m top) → ((i : Instance) → IsOneOf i (all m top s) → AllOwn (K m top s).items.type_named i.parametric_args) → (p : Proc) (parametric_args : List DslxValue) → IsReachedProc m top p parametric_args → IsThere m top s p parametric_args
+is_there m top s owns p parametric_args h =
+    let i : Instance = record { name = p.name.name; parametric_args = parametric_args } in
+    let among = one_of_these i (all m top s) h.checked in
+    record { checked = record { named = h.named; among = among }; own = owns i among }

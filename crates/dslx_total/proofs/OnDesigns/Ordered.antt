@@ -30,7 +30,6 @@ use Rattle.dslx_core.specs.Lowering.Functions.{CoreInstance, Instantiated}
 use Rattle.dslx_core.specs.Networks.Configs.{ProcInstance, config_scope, lower_spawn_parametrics}
 use Rattle.dslx_core.specs.Networks.Procs.{procs_from}
 use Rattle.dslx_total.proofs.OnTables.Lists.{AreApart, as_named, both_chosen, chosen}
-use Rattle.dslx_total.proofs.OnTables.Own.{all_own_pass, all_own_there, are_own}
 use Rattle.dslx_total.specs.Families.EachElaborated.{NextLowers}
 use Rattle.dslx_total.proofs.OnFamilies.Reached.{Within, proc_within}
 use Rattle.dslx_total.proofs.OnFamilies.Spawns.{proc_is}
@@ -55,17 +54,17 @@ mentioned_proc : (m : Module) (k : ℕ) (name : List ℕ) (p : Proc) → item_na
 mentioned_proc m k name p e h =
     (and_true (ends_within m k name) true ((λ t. list_all (ends_within m k) (if is_of_use AsProc (sym e t) then name ∷ [] else [])) ∙ h)).0
 
-module _ (m : Module) (top : Option (List ℕ)) (functions : List CoreInstance) (nexts : (p : Proc) (parametric_args : List DslxValue) → IsReachedProc m (meanings_of m) top p parametric_args → NextLowers m functions p parametric_args)
-    (configs : (p : Proc) (parametric_args : List DslxValue) → IsReachedProc m (meanings_of m) top p parametric_args → ConfigLowers m (meanings_of m) top p parametric_args) where
+module _ (m : Module) (top : Option (List ℕ)) (functions : List CoreInstance) (nexts : (p : Proc) (parametric_args : List DslxValue) → IsReachedProc m top p parametric_args → NextLowers m functions p parametric_args)
+    (configs : (p : Proc) (parametric_args : List DslxValue) → IsReachedProc m top p parametric_args → ConfigLowers m (meanings_of m) top p parametric_args) where
   abbrev items : Meanings
   items = meanings_of m
 
   abbrev pub all : List Instance
   all = instances_of m top
 
-  -- an instance of a proc whose parametric arguments are of their own types
+  -- an instance of a proc
   abbrev is_proc : Instance → Bool
-  is_proc i = is_of_use AsProc (item_named i.name m.items) && are_own items.type_named i.parametric_args
+  is_proc i = is_of_use AsProc (item_named i.name m.items)
 
   -- chains from it have one item more, and no fewer
   abbrev is_next : ℕ → Instance → Bool
@@ -86,19 +85,19 @@ module _ (m : Module) (top : Option (List ℕ)) (functions : List CoreInstance) 
   -- ---- one instance
 
   -- the instance that a spawn comes to
-  spawned_there : (k : ℕ) (table : List ProcInstance) → HoldsShorter k table → (scope : CoreScope) (s : Spawn) → Within (ends_within m k) m (mention AsProc s.target.name) → SpawnsReached m items top scope s → HasItsInstance m items scope table s
-  spawned_there k table holds scope s w h target parametric_args is given own =
+  spawned_there : (k : ℕ) (table : List ProcInstance) → HoldsShorter k table → (scope : CoreScope) (s : Spawn) → Within (ends_within m k) m (mention AsProc s.target.name) → SpawnsReached m top scope s → HasItsInstance m scope table s
+  spawned_there k table holds scope s w h target parametric_args is given =
       let named : item_named s.target.name m.items ≡ Some (d.Proc h.target) = proc_is (item_named s.target.name m.items) h.target h.is in
       let name : h.target.name.name ≡ s.target.name = item_so_named m.items s.target.name (d.Proc h.target) named in
       let one = same_some h.target target (sym h.is ∙ is) in
       let same = same_some h.parametric_args parametric_args (sym h.given ∙ ((λ t. lower_spawn_parametrics scope (one t) s.arguments) ∙ given)) in
       let i : Instance = record { name = s.target.name; parametric_args = h.parametric_args } in
       let among = one_of_these i all (subst (λ n. is_reached (record { name = n; parametric_args = h.parametric_args }) all ≡ true) name h.checked.checked) in
-      let there = holds i among (λ t. is_of_use AsProc (named t) && all_own_pass items.type_named h.parametric_args h.checked.own t) (mentioned_proc m k s.target.name h.target named w) in
+      let there = holds i among (ap (is_of_use AsProc) named) (mentioned_proc m k s.target.name h.target named w) in
       found_in s.target.name parametric_args 0 table (subst (λ (vs : List DslxValue). stands table s.target.name vs ≡ true) same there)
 
-  each_there : (k : ℕ) (table : List ProcInstance) → HoldsShorter k table → (scope : CoreScope) (bound : List (List ℕ)) (ms : List ConfigStatement) → Within (ends_within m k) m (flat_map (λ (x : ConfigStatement). config_statement_mentions x bound) ms) → EachSpawn (SpawnsReached m items top scope) ms
-      → EachSpawn (HasItsInstance m items scope table) ms
+  each_there : (k : ℕ) (table : List ProcInstance) → HoldsShorter k table → (scope : CoreScope) (bound : List (List ℕ)) (ms : List ConfigStatement) → Within (ends_within m k) m (flat_map (λ (x : ConfigStatement). config_statement_mentions x bound) ms) → EachSpawn (SpawnsReached m top scope) ms
+      → EachSpawn (HasItsInstance m scope table) ms
   each_there k table holds scope bound [] w h = tt
   each_there k table holds scope bound (config_statement.Channel c ∷ ms) w h =
       let v = den_parts (ends_within m k) m (config_statement_mentions (config_statement.Channel c) bound) (flat_map (λ (x : ConfigStatement). config_statement_mentions x bound) ms) w in
@@ -109,7 +108,7 @@ module _ (m : Module) (top : Option (List ℕ)) (functions : List CoreInstance) 
       (spawned_there k table holds scope s u.0 h.0, each_there k table holds scope bound ms v.1 h.1)
 
   -- where all with shorter chains stand, it becomes something
-  pub checked_next : (k : ℕ) (table : List ProcInstance) → HoldsShorter k table → (p : Proc) (parametric_args : List DslxValue) → IsReachedProc m items top p parametric_args → ends_within m (suc k) p.name.name ≡ true
+  pub checked_next : (k : ℕ) (table : List ProcInstance) → HoldsShorter k table → (p : Proc) (parametric_args : List DslxValue) → IsReachedProc m top p parametric_args → ends_within m (suc k) p.name.name ≡ true
       → IsNext m functions table (record { name = p.name.name; parametric_args = parametric_args })
   checked_next k table holds p parametric_args checked e =
       let within = proc_within (ends_within m k) m p ((λ t. list_all (ends_within m k) (mentions_of m (sym checked.named t))) ∙ e) in
@@ -120,15 +119,13 @@ module _ (m : Module) (top : Option (List ℕ)) (functions : List CoreInstance) 
   due_next : (k : ℕ) (table : List ProcInstance) → HoldsShorter k table → (i : Instance) → IsOneOf i all → due k i ≡ true → IsNext m functions table (as_named i)
   due_next k table holds i one e =
       let q = and_true (is_next k i) (is_proc i) e in
-      let r = and_true (is_of_use AsProc (item_named i.name m.items)) (are_own items.type_named i.parametric_args) q.1 in
-      let p = proc_there (item_named i.name m.items) r.0 in
+      let p = proc_there (item_named i.name m.items) q.1 in
       let name : p.0.name.name ≡ i.name = item_so_named m.items i.name (d.Proc p.0) p.1 in
       subst (λ n. IsNext m functions table (record { name = n; parametric_args = i.parametric_args })) name
       (checked_next k table holds p.0 i.parametric_args
       (record {
         named = (λ t. item_named (name t) m.items) ∙ p.1;
         checked = (λ t. is_reached (record { name = name t; parametric_args = i.parametric_args }) all) ∙ reached_there i all one;
-        own = all_own_there items.type_named i.parametric_args r.1;
       })
       ((λ t. ends_within m (suc k) (name t)) ∙ (and_true (ends_within m (suc k) i.name) (not (ends_within m k i.name)) q.0).0))
 

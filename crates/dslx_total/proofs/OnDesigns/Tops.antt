@@ -42,8 +42,8 @@ longest_chain m name (suc n) e = by_less (ends_within m n name) refl (longest_ch
     by_less true q less = less q
     by_less false q less = record { number = n; most = e; least = q }
 
-pub procs_have_table : (m : Module) (top : Option (List ℕ)) (functions : List CoreInstance) → ((p : Proc) (parametric_args : List DslxValue) → IsReachedProc m (meanings_of m) top p parametric_args → NextLowers m functions p parametric_args)
-    → ((p : Proc) (parametric_args : List DslxValue) → IsReachedProc m (meanings_of m) top p parametric_args → ConfigLowers m (meanings_of m) top p parametric_args) → HasNoCycle m → (p : Proc) → IsReachedProc m (meanings_of m) top p (top_parametric_args (meanings_of m) p)
+pub procs_have_table : (m : Module) (top : Option (List ℕ)) (functions : List CoreInstance) → ((p : Proc) (parametric_args : List DslxValue) → IsReachedProc m top p parametric_args → NextLowers m functions p parametric_args)
+    → ((p : Proc) (parametric_args : List DslxValue) → IsReachedProc m top p parametric_args → ConfigLowers m (meanings_of m) top p parametric_args) → HasNoCycle m → (p : Proc) → IsReachedProc m top p (top_parametric_args (meanings_of m) p)
     → ProcsHaveTable m top functions p
 procs_have_table m top functions nexts configs free p checked =
     let parametric_args = top_parametric_args (meanings_of m) p in

@@ -69,14 +69,14 @@ one_step s None = refl
 one_step s (Some l) = refl
 
 -- the channel of a site
-record ChannelThere (context : TypeEnv) (e : ExprPair) (named : Option (List ℕ)) : Type 0 where
-  name : List ℕ
-  is : named ≡ Some name
-  channel_end : ChannelEnd
-  found : channel_end_in name context.members ≡ Some channel_end
-  word : word_of (channel_named context e named) ≡ channel_end.word
+pub record ChannelThere (context : TypeEnv) (e : ExprPair) (named : Option (List ℕ)) : Type 0 where
+  pub name : List ℕ
+  pub is : named ≡ Some name
+  pub channel_end : ChannelEnd
+  pub found : channel_end_in name context.members ≡ Some channel_end
+  pub word : word_of (channel_named context e named) ≡ channel_end.word
 
-channel_there : (context : TypeEnv) (e : ExprPair) (named : Option (List ℕ)) (span : Span) (direction : Direction) → site_faults span context direction (channel_named context e named) ≡ [] → ChannelThere context e named
+pub channel_there : (context : TypeEnv) (e : ExprPair) (named : Option (List ℕ)) (span : Span) (direction : Direction) → site_faults span context direction (channel_named context e named) ≡ [] → ChannelThere context e named
 channel_there context e None span direction f = absurd (true≢false (or_false true (has_site context None) (not_broken (true || has_site context None) 29 span f)).0)
 channel_there context e (Some name) span direction f = by_local (typed_in name context.locals) refl
   where
@@ -92,16 +92,16 @@ channel_there context e (Some name) span direction f = by_local (typed_in name c
     by_local None q = by_channel_end (channel_end_in name context.members) refl (ap (λ t. channel_end_if t (channel_end_in name context.members)) q)
 
 -- an effect with which nothing is wrong
-record EffectWellTyped (known : GlobalEnv) (span : Span) (context : TypeEnv) (direction : Direction) (t : Judgement) (c : ChannelSeen) (js : List Judgement) (wrong : List Fault) (given : Option DslxType) : Type 0 where
-  token : t.faults ≡ []
-  token_reached : list_all known.is_sound t.reached ≡ true
-  others : faults_of_all js ≡ []
-  others_reached : list_all known.is_sound (reached_of_all js) ≡ true
-  more : wrong ≡ []
-  site : site_faults span context direction c ≡ []
-  ty : (effect_with span context direction t c js wrong given).ty ≡ and_then t.ty (λ u. when_all (types_of js) given)
+pub record EffectWellTyped (known : GlobalEnv) (span : Span) (context : TypeEnv) (direction : Direction) (t : Judgement) (c : ChannelSeen) (js : List Judgement) (wrong : List Fault) (given : Option DslxType) : Type 0 where
+  pub token : t.faults ≡ []
+  pub token_reached : list_all known.is_sound t.reached ≡ true
+  pub others : faults_of_all js ≡ []
+  pub others_reached : list_all known.is_sound (reached_of_all js) ≡ true
+  pub more : wrong ≡ []
+  pub site : site_faults span context direction c ≡ []
+  pub ty : (effect_with span context direction t c js wrong given).ty ≡ and_then t.ty (λ u. when_all (types_of js) given)
 
-effect_well_typed : (known : GlobalEnv) (span : Span) (context : TypeEnv) (direction : Direction) (t : Judgement) (c : ChannelSeen) (js : List Judgement) (wrong : List Fault) (given : Option DslxType)
+pub effect_well_typed : (known : GlobalEnv) (span : Span) (context : TypeEnv) (direction : Direction) (t : Judgement) (c : ChannelSeen) (js : List Judgement) (wrong : List Fault) (given : Option DslxType)
     → IsWellTypedPart known (effect_with span context direction t c js wrong given) → EffectWellTyped known span context direction t c js wrong given
 effect_well_typed known span context direction t c js wrong given well_typed =
     let sites = site_faults span context direction c in
@@ -126,10 +126,10 @@ pub record ActThere (types : Declarations) (outer : CoreScope) (ends : List End)
   pub declared : IsDeclared types own
   pub steps : (binds : BindsInScope) (rest : StepsLowering) (s : LoweredShape) → binds scope own ≡ Some s → type_of_steps (lower_act outer ends act e binds rest scope) ≡ type_of_steps (rest s.scope)
 
-token_declared : (types : Declarations) → IsDeclared types ty.Token
+pub token_declared : (types : Declarations) → IsDeclared types ty.Token
 token_declared types = ap (as_declared types) (sym rolls.rolls-Token) ∙ fold-roll-DslxType DslxType (declared_step types) DslxType-F.Token
 
-received_declared : (types : Declarations) (w : DslxType) → IsDeclared types w → IsDeclared types (received w)
+pub received_declared : (types : Declarations) (w : DslxType) → IsDeclared types w → IsDeclared types (received w)
 received_declared types w d = tuple_declared types (ty.Token ∷ w ∷ []) (token_declared types, (d, tt))
 
 module _ (here : Instance → Bool) (context : TypeEnv) (env : Env) (outer scope : CoreScope) (ends : List End) (h : IsWellTypedEnv context env) (at : ScopeMatchesEnv here context scope) (members : MembersExist context outer ends) where

@@ -67,7 +67,7 @@ sized_there types parts = type_induction (IsSized types)
 -- ---- members in sight
 
 -- types don't see the members of the proc
-typed_with : (context : TypeEnv) (members : List ChannelEnd) (env : Env) → IsWellTypedEnv context env → IsWellTypedEnv (record context { members = members }) env
+pub typed_with : (context : TypeEnv) (members : List ChannelEnd) (env : Env) → IsWellTypedEnv context env → IsWellTypedEnv (record context { members = members }) env
 typed_with context members env h = record {
   locals = h.locals;
   parametric_args = h.parametric_args;

@@ -24,8 +24,8 @@ use Rattle.dslx_core.specs.Typing.Typed.Complete.{IsComplete}
 use Rattle.dslx_core.specs.Typing.Complete.HasValue.{AreTyped}
 use Rattle.dslx_core.proofs.Lemmas.Typing.Complete.{item_env}
 use Rattle.dslx_core.proofs.Lemmas.Typing.Accepted.{IsAccepted, one_instance, one_of_these}
-use Rattle.dslx_total.specs.Families.Plain.{ProcsBindNoConstant}
 use Rattle.dslx_total.proofs.OnFamilies.Acts.{parts_well_typed}
+use Rattle.dslx_total.proofs.OnFamilies.Parametrics.{LoopsHaveNoValue}
 use Rattle.dslx_total.proofs.OnFamilies.Reached.{K, Listed, all}
 use Rattle.dslx_total.proofs.OnFamilies.Spawns.{proc_named, spawn_there}
 use Rattle.dslx_total.proofs.OnFamilies.There.{IsThere, well}
@@ -55,7 +55,7 @@ counted_there f i (x ∷ xs) h = by_same (same_instance x i) refl h (counted_the
     by_same false q (inl e) rest = absurd (true≢false (sym (itself i) ∙ ap (λ j. same_instance j i) e ∙ q))
     by_same false q (inr k) rest = rest k
 
-module _ (m : Module) (top : Option (List ℕ)) (s : IsAccepted m top) (procs : ProcsBindNoConstant m) (complete : IsComplete (K m top s)) (typed : AreTyped (K m top s)) where
+module _ (m : Module) (top : Option (List ℕ)) (s : IsAccepted m top) (loops : LoopsHaveNoValue m) (complete : IsComplete (K m top s)) (typed : AreTyped (K m top s)) where
   abbrev known : GlobalEnv
   known = K m top s
 
@@ -77,7 +77,7 @@ module _ (m : Module) (top : Option (List ℕ)) (s : IsAccepted m top) (procs : 
     one_counted : (own : List ℕ) (made : Made) (sp : Spawn) (number : ℕ) → (spawn_found context made sp).faults ≡ [] → Listed m top s (spawn_found context made sp).reached
         → size_of_family (spawned m known.items place own env held sp number) ≡ spawn_count known.items counted env sp (as_proc (item_named sp.target.name m.items))
     one_counted own made sp number f r =
-        let t = spawn_there m top s procs complete typed p parametric_args (well m top s complete typed p parametric_args here) made sp bound f r in
+        let t = spawn_there m top s loops complete typed p parametric_args (well m top s complete typed p parametric_args here) made sp bound f r in
         let named = proc_named m sp.target.name t.target t.is in
         let ends = handed_over t.target.config.ends (channels_of_ends held sp.ends) in
         let elaborated : spawned m known.items place own env held sp number ≡ place own t.target t.parametric_args ends number =

@@ -25,8 +25,8 @@ use Rattle.dslx_core.specs.Typing.Procs.WordsOfEnds.{WordsAreValues}
 use Rattle.dslx_total.specs.Texts.WellTypedTexts.{EachProcIsWellTyped, IsWellTypedProc}
 use Rattle.dslx_core.proofs.Lemmas.Typing.Accepted.{IsAccepted, one_of_these}
 use Rattle.dslx_total.specs.Families.EachElaborated.{EachElaborated}
-use Rattle.dslx_total.specs.Families.Plain.{ProcsBindNoConstant}
 use Rattle.dslx_total.proofs.OnFamilies.Acts.{parts_well_typed}
+use Rattle.dslx_total.proofs.OnFamilies.Parametrics.{LoopsHaveNoValue}
 use Rattle.dslx_total.proofs.OnFamilies.Reached.{K, Listed, all}
 use Rattle.dslx_total.proofs.OnFamilies.Spawns.{proc_named, spawn_there}
 use Rattle.dslx_total.proofs.OnFamilies.There.{IsThere, well}
@@ -44,7 +44,7 @@ pub each_well_typed : (known : GlobalEnv) (as' : List Elaborated) → EachElabor
 each_well_typed known [] h = tt
 each_well_typed known (a ∷ as') h = (h.0, each_well_typed known as' h.1)
 
-module _ (m : Module) (top : Option (List ℕ)) (s : IsAccepted m top) (procs : ProcsBindNoConstant m) (complete : IsComplete (K m top s)) (typed : AreTyped (K m top s)) (names : NamesHaveWidths (K m top s))
+module _ (m : Module) (top : Option (List ℕ)) (s : IsAccepted m top) (loops : LoopsHaveNoValue m) (complete : IsComplete (K m top s)) (typed : AreTyped (K m top s)) (names : NamesHaveWidths (K m top s))
     (words : WordsThere) where
   abbrev known : GlobalEnv
   known = K m top s
@@ -75,7 +75,7 @@ module _ (m : Module) (top : Option (List ℕ)) (s : IsAccepted m top) (procs : 
     one_spawned : (own : List ℕ) (made : Made) (sp : Spawn) (number : ℕ) → (spawn_found context made sp).faults ≡ [] → Listed m top s (spawn_found context made sp).reached
         → EachElaborated Q (spawned m known.items place own env held sp number).procs
     one_spawned own made sp number f r =
-        let t = spawn_there m top s procs complete typed p parametric_args (well m top s complete typed p parametric_args here) made sp bound f r in
+        let t = spawn_there m top s loops complete typed p parametric_args (well m top s complete typed p parametric_args here) made sp bound f r in
         let named = proc_named m sp.target.name t.target t.is in
         let elaborated : spawned m known.items place own env held sp number ≡ place own t.target t.parametric_args (handed_over t.target.config.ends (channels_of_ends held sp.ends)) number =
         (λ i. spawned_at place own held sp number (t.is i) (and_then (t.is i) (λ q. spawn_parametric_args known.items env q sp.arguments))) ∙ ap (spawned_at place own held sp number (Some t.target)) t.given in

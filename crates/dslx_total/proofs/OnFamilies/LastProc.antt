@@ -16,7 +16,7 @@ use Rattle.dslx_meaning.specs.Rules.NameRules.{listed_name}
 use Rattle.dslx_core.proofs.Lemmas.Typing.Sound.{none_in, not_broken}
 use Rattle.dslx_core.proofs.Lemmas.Typing.Typed.{or_false, same_some}
 
-names_agree : (x : Definition) → (ident_of x).name ≡ name_of_definition x
+pub names_agree : (x : Definition) → (ident_of x).name ≡ name_of_definition x
 names_agree (d.Function f) = refl
 names_agree (d.Proc p) = refl
 names_agree (d.Constant c) = refl

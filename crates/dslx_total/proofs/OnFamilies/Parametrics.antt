@@ -16,15 +16,15 @@ use Rattle.dslx_meaning.specs.Items.{item_named, parametric_args_bound, with_num
 use Rattle.dslx_meaning.specs.declared.value.DslxValue.{DslxValue}
 use Rattle.dslx_meaning.specs.Rules.TypeEnvs.{DefaultSeen, Judgement, GlobalEnv, Signature}
 use Rattle.dslx_meaning.specs.Rules.ItemRules.{item_type_env, typing_of_inner, typing_of_type}
-use Rattle.dslx_meaning.specs.Rules.Mentions.{AsEnum, Mention, ends_mentions, expr_if, is_of_use, item_reaches, mentioned, mentioned_in_type, names_mentioned, parametric_names, parametrics_mentions}
+use Rattle.dslx_meaning.specs.Rules.Mentions.{AsEnum, AsValue, Mention, ends_mentions, expr_if, is_of_use, item_reaches, mentioned, mentioned_in_type, names_mentioned, parametric_names, parametrics_mentions}
 use Rattle.dslx_meaning.specs.Rules.ModuleRules.{declared_type, default_if, default_known, globals_of, globals_over, globals_within, parametrics_of}
 use Rattle.dslx_meaning.specs.Rules.TypeRules.{unless_unit}
 use Rattle.dslx_meaning.specs.Rules.NodeRules.{expr_pair, type_pair}
 use Rattle.dslx_core.specs.Typing.TypingRelations.Reached.{DeclarationReaches, MentionsReach}
 use Rattle.dslx_core.proofs.Lemmas.Typing.TypingRelations.{den_reach, own_reached, parametrics_reach, whole_is}
 use Rattle.dslx_core.specs.Typing.Depends.Alike.{DeclaredAlike, NamesAlike, SeesAlike}
-use Rattle.dslx_core.specs.Typing.Depends.Settled.{AreNoConstants, BindsNoConstant}
-use Rattle.dslx_core.proofs.Lemmas.Typing.Depends.{Stage, Stands, declared_alike, default_is, env_behind, parameter_is, signature_is, stands_next, constant_alike, constant_same, expression_alike, inner_same, all_below, is_proc_item, item_rank, den_parts, mentions_settle, not_true, parametrics_none, proc_below, ranked, ranks_settle, settles, settles_closed, plain_alike, sees_where, written_type_alike}
+use Rattle.dslx_core.specs.Typing.Depends.Settled.{BindsNoConstant}
+use Rattle.dslx_core.proofs.Lemmas.Typing.Depends.{Stage, Stands, declared_alike, default_is, env_behind, parameter_is, signature_is, stands_next, constant_alike, constant_same, expression_alike, inner_same, all_below, every_item_settles, is_proc_item, item_rank, den_parts, mentions_pass, mentions_settle, not_true, parametrics_none, proc_below, ranked, ranks_settle, settles, settles_closed, settles_next, stage_sight, sees_where, uses_over, written_type_alike}
 use Rattle.dslx_core.specs.Typing.Typed.Complete.{EachParametricKnown, IsComplete, IsDefaultKnown, IsWellTypedPart, IsTypeKnown, signature_at}
 use Rattle.dslx_core.specs.Typing.Typed.Numbers.{AreOwn, ParametricsMean, values_behind}
 use Rattle.dslx_core.proofs.Lemmas.Typing.Typed.{own_more, own_value}
@@ -36,6 +36,53 @@ use Rattle.dslx_total.proofs.OnFamilies.Reached.{IsProcOf, ProcWithin, ends_none
 abbrev pub EndsAreTyped : GlobalEnv → Proc → Type 0
 EndsAreTyped known p = (parametric_args : List DslxValue) → (signature_at known p.name.name parametric_args).arguments
     ≡ map (λ (e : End). declared_type (item_type_env known p.name.name (parametric_args_bound [] p.parametrics parametric_args)) e.word) p.config.ends
+
+-- ---- constants
+
+-- an item that reaches itself has no value, however long chains of items are
+abbrev pub LoopsHaveNoValue : Module → Type 0
+LoopsHaveNoValue m = (name : List ℕ) → item_reaches m name name ≡ true → (n : ℕ) → (globals_within m n).items.constant name ≡ None
+
+-- a constant has one value by chains of as many items as there are and of one less, whatever binds its name
+module _ (m : Module) (plain : BindsNoConstant m) (loops : LoopsHaveNoValue m) (k : ℕ) (many : length m.items ≡ suc k) where
+  abbrev first : GlobalEnv
+  first = globals_within m (2 * k)
+
+  abbrev second : GlobalEnv
+  second = globals_within m (suc (2 * k))
+
+  abbrev Below : List ℕ → Bool
+  Below = settles m k
+
+  settled : Stage Below m first second
+  settled =
+      let least : 2 * k ≤ 2 * k = omega arith in
+      let more : 2 * k ≤ suc (2 * k) = omega arith in
+      ranks_settle m plain k (2 * k) (suc (2 * k)) least more
+
+  ranks_below : (name : List ℕ) → item_reaches m name name ≡ false → is_of_use AsValue (item_named name m.items) ≡ true → mentions_pass Below m name ≡ true
+  ranks_below name free e = settles_next m k name (subst (λ n. settles m n name ≡ true) many (by_item (item_named name m.items) refl e)) free
+    where
+      by_item : (o : Option Definition) → item_named name m.items ≡ o → is_of_use AsValue o ≡ true → settles m (length m.items) name ≡ true
+      by_item (Some (d.Constant c)) q h = every_item_settles m name (d.Constant c) q refl
+      by_item (Some (d.Function f)) q h = absurd (true≢false (sym h))
+      by_item (Some (d.Proc p)) q h = absurd (true≢false (sym h))
+      by_item (Some (d.Alias x)) q h = absurd (true≢false (sym h))
+      by_item (Some (d.Struct x)) q h = absurd (true≢false (sym h))
+      by_item (Some (d.Enum x)) q h = absurd (true≢false (sym h))
+      by_item None q h = absurd (true≢false (sym h))
+
+  constant_settles : (name : List ℕ) → (globals_within m (suc (2 * k))).items.constant name ≡ (globals_within m (suc (suc (2 * k)))).items.constant name
+  constant_settles name = by_loop (item_reaches m name name) refl
+    where
+      by_loop : (b : Bool) → item_reaches m name name ≡ b → (globals_within m (suc (2 * k))).items.constant name ≡ (globals_within m (suc (suc (2 * k)))).items.constant name
+      by_loop true q = loops name q (suc (2 * k)) ∙ sym (loops name q (suc (suc (2 * k))))
+      by_loop false q =
+          uses_over Below (mentions_pass Below m) (λ owner. Below) m first second (stage_sight Below m first second (settles_closed m k) settled) (λ owner h. h) plain AsValue name (ranks_below name q)
+
+  names_settle : (names : List (List ℕ)) → NamesAlike (globals_within m (suc (2 * k))) (globals_within m (suc (suc (2 * k)))) names
+  names_settle [] = tt
+  names_settle (n ∷ ns) = (constant_settles n, names_settle ns)
 
 -- ---- by one level more
 
@@ -145,24 +192,22 @@ module _ (m : Module) (plain : BindsNoConstant m) (p : Proc) (named : IsProcOf m
   own_ends : (k : ℕ) → rank_at k → list_all (settles m k) (names_mentioned m (ends_mentions p.config.ends (parametric_names p.parametrics))) ≡ true
   own_ends k h = let bound = parametric_names p.parametrics in all_below m k p named h (ends_mentions p.config.ends bound) (ends_none p.config.ends bound) parts.ends
 
-  pub globals_alike : AreNoConstants m (parametric_names p.parametrics) → DeclaredAlike (globals_of m) (globals_over (globals_of m)) p.name.name
-  globals_alike hidden = one_rank m p.name.name rank (λ k e.
+  pub globals_alike : LoopsHaveNoValue m → DeclaredAlike (globals_of m) (globals_over (globals_of m)) p.name.name
+  globals_alike loops = one_rank m p.name.name rank (λ k e.
       let h : rank_at k = (λ i. ranked m (sym e i) p.name.name) ∙ rank in
       let j = suc (2 * k) in
       let level : 2 * length m.items ≡ suc j = omega (arith, e) in
       let less : 2 * k ≤ j = omega arith in
-      let more : 2 * k ≤ suc j = omega arith in
       subst (λ n. DeclaredAlike (globals_within m n) (globals_over (globals_within m n)) p.name.name) (sym level)
-      (proc_alike m plain k j less p.name.name (proc_below m k p named h) p named
-      (plain_alike (settles m k) m (globals_within m j) (globals_within m (suc j)) (settles_closed m k) (ranks_settle m plain k j (suc j) less more) (parametric_names p.parametrics) hidden) (own_parametrics k h) (own_ends k h)))
+      (proc_alike m plain k j less p.name.name (proc_below m k p named h) p named (names_settle m plain loops k e (parametric_names p.parametrics)) (own_parametrics k h) (own_ends k h)))
 
   -- it has the item in what is known
   pub proc_known : item_named p.name.name (globals_of m).whole.items ≡ Some (d.Proc p)
   proc_known = (λ i. item_named p.name.name (whole_is m (2 * length m.items) i).items) ∙ named
 
-  pub own_ends_alike : AreNoConstants m (parametric_names p.parametrics) → EndsAreTyped (globals_of m) p
-  own_ends_alike hidden parametric_args =
-      ap (λ (x : Signature). x.arguments) ((globals_alike hidden).signature (values_behind [] parametric_args) ∙ signature_is p.name.name (d.Proc p) parametric_args (globals_of m) proc_known)
+  pub own_ends_alike : LoopsHaveNoValue m → EndsAreTyped (globals_of m) p
+  own_ends_alike loops parametric_args =
+      ap (λ (x : Signature). x.arguments) ((globals_alike loops).signature (values_behind [] parametric_args) ∙ signature_is p.name.name (d.Proc p) parametric_args (globals_of m) proc_known)
 
   -- what their types and defaults reach passes
   pub parametrics_pass : DeclarationReaches (settles m (length m.items)) (globals_of m) p.name.name

@@ -38,8 +38,7 @@ use Rattle.dslx_core.proofs.Lemmas.Typing.Typed.{all_are, parametric_args_found}
 use Rattle.dslx_core.specs.Typing.Complete.HasValue.{AreTyped}
 use Rattle.dslx_core.proofs.Lemmas.Typing.Complete.{item_env, none_own, own_parametric_args}
 use Rattle.dslx_core.proofs.Lemmas.Typing.Accepted.{IsAccepted}
-use Rattle.dslx_total.specs.Families.Plain.{ProcsBindNoConstant}
-use Rattle.dslx_total.proofs.OnFamilies.Parametrics.{globals_alike, own_ends_alike, parametrics_known, parametrics_mean, parametrics_pass, proc_known}
+use Rattle.dslx_total.proofs.OnFamilies.Parametrics.{LoopsHaveNoValue, globals_alike, own_ends_alike, parametrics_known, parametrics_mean, parametrics_pass, proc_known}
 use Rattle.dslx_total.proofs.OnFamilies.Reached.{IsProcOf, K, Listed, Passing, all, all_sound, arguments_none, reaching}
 
 abbrev is_there : {A : Type 0} → Option A → Bool
@@ -80,11 +79,11 @@ well_behind context env made h = record {
   known = h.known;
 }
 
-each_argument : (as' : List Arg) → EachExprGives (map (λ (a : ArgPair). a.1) (map arg_pair as')) (map arg_denotation as')
+pub each_argument : (as' : List Arg) → EachExprGives (map (λ (a : ArgPair). a.1) (map arg_pair as')) (map arg_denotation as')
 each_argument [] = tt
 each_argument (a ∷ as') = (argument_gives a, each_argument as')
 
-module _ (m : Module) (top : Option (List ℕ)) (s : IsAccepted m top) (procs : ProcsBindNoConstant m) (complete : IsComplete (K m top s)) (typed : AreTyped (K m top s)) where
+module _ (m : Module) (top : Option (List ℕ)) (s : IsAccepted m top) (loops : LoopsHaveNoValue m) (complete : IsComplete (K m top s)) (typed : AreTyped (K m top s)) where
   abbrev known : GlobalEnv
   known = K m top s
 
@@ -104,7 +103,7 @@ module _ (m : Module) (top : Option (List ℕ)) (s : IsAccepted m top) (procs : 
       → ParametricArgsThere target gs vs
   parametric_args_there name target is named gs vs each mean f j r w =
       let owner = target.name.name in
-      let alike = globals_alike m s.plain target named (procs name target is) in
+      let alike = globals_alike m s.plain target named loops in
       let here = proc_known m s.plain target named in
       let all = stands_first owner (d.Proc target) in
       let seen = proc_parametric_args known target gs in
@@ -165,7 +164,7 @@ module _ (m : Module) (top : Option (List ℕ)) (s : IsAccepted m top) (procs : 
         let listed = all_in test declared.reached (reached_by (is_refused (cyclic sp target) n) target.name.name n.values) r in
         let named = proc_named m sp.target.name target is in
         let k = parametric_args_there sp.target.name target is named (gs made sp) g.values g.each g.mean c.1 (ap (λ (j : JudgedThere). j.faults) (sym there) ∙ d.1) (ap (λ (j : JudgedThere). list_all test j.reached) (sym there) ∙ listed.0) no_wrong in
-        let alike = own_ends_alike m s.plain target named (procs sp.target.name target is) in
+        let alike = own_ends_alike m s.plain target named loops in
         let ways = ap (λ (b : Before). (known.signature_in target.name.name b.values).arguments) k.shown ∙ alike k.parametric_args in
         let i : Instance = record { name = target.name.name; parametric_args = k.parametric_args } in
         let one = and_true (test i) true ((λ t. list_all test (reached_by (has_broken (sym c.0 t) || sym no_wrong t) target.name.name (sym k.is t))) ∙ listed.1) in

@@ -23,8 +23,8 @@ use Rattle.dslx_core.specs.Typing.Typed.Numbers.{AllOwn}
 use Rattle.dslx_core.proofs.Lemmas.Typing.Typed.{none_some, or_false}
 use Rattle.dslx_core.specs.Typing.Complete.HasValue.{AreTyped}
 use Rattle.dslx_core.proofs.Lemmas.Typing.Accepted.{IsAccepted, all_empty, names_apart}
-use Rattle.dslx_total.specs.Families.Plain.{ProcsBindNoConstant}
 use Rattle.dslx_total.proofs.OnFamilies.LastProc.{last_named}
+use Rattle.dslx_total.proofs.OnFamilies.Parametrics.{LoopsHaveNoValue}
 use Rattle.dslx_total.proofs.OnFamilies.Reached.{IsProcOf, K, Listed, all, all_listed}
 use Rattle.dslx_total.proofs.OnFamilies.Spawns.{parametric_args_there, proc_named}
 
@@ -41,7 +41,7 @@ default_right known owner before t (Some x) e = by_known before.are_known
     by_known true = by_value (of_type t (known.default_in owner before.values).value)
     by_known false = refl
 
-none_wrong : (known : GlobalEnv) (owner : List ℕ) (before : Before) (ps : List Parametric) → list_any lacks_default ps ≡ false → (parametric_args_seen known owner [] [] before ps []).is_wrong ≡ false
+pub none_wrong : (known : GlobalEnv) (owner : List ℕ) (before : Before) (ps : List Parametric) → list_any lacks_default ps ≡ false → (parametric_args_seen known owner [] [] before ps []).is_wrong ≡ false
 none_wrong known owner before [] e = refl
 none_wrong known owner before (p ∷ ps) e =
     let q = or_false (lacks_default p) (list_any lacks_default ps) e in
@@ -50,11 +50,11 @@ none_wrong known owner before (p ∷ ps) e =
     λ i. default_right known owner before t p.default q.0 i || none_wrong known owner (and_parametric before v) ps q.1 i
 
 -- the instance of the top
-abbrev top_instance : Proc → Option (List DslxValue) → List Instance
+abbrev pub top_instance : Proc → Option (List DslxValue) → List Instance
 top_instance p None = []
 top_instance p (Some vs) = record { name = p.name.name; parametric_args = vs } ∷ []
 
-module _ (m : Module) (top : Option (List ℕ)) (s : IsAccepted m top) (procs : ProcsBindNoConstant m) (complete : IsComplete (K m top s)) (typed : AreTyped (K m top s)) where
+module _ (m : Module) (top : Option (List ℕ)) (s : IsAccepted m top) (loops : LoopsHaveNoValue m) (complete : IsComplete (K m top s)) (typed : AreTyped (K m top s)) where
   abbrev known : GlobalEnv
   known = K m top s
 
@@ -62,23 +62,30 @@ module _ (m : Module) (top : Option (List ℕ)) (s : IsAccepted m top) (procs : 
   test i = is_reached i (all m top s)
 
   -- what is found outside instances, by parts
-  top_right : top_faults m top (top_proc m top) ≡ []
+  pub top_right : top_faults m top (top_proc m top) ≡ []
   top_right = (none_in (top_faults m top (top_proc m top)) ((items_found known m.items).faults ++ (top_found known (top_proc m top)).faults) (all_empty m top s).0).0
 
-  top_empty : (top_found known (top_proc m top)).faults ≡ []
+  pub top_empty : (top_found known (top_proc m top)).faults ≡ []
   top_empty =
       let tops = top_faults m top (top_proc m top) in
       (none_in (items_found known m.items).faults (top_found known (top_proc m top)).faults (none_in tops ((items_found known m.items).faults ++ (top_found known (top_proc m top)).faults) (all_empty m top s).0).1).1
 
-  top_listed : Listed m top s (top_found known (top_proc m top)).reached
+  pub top_listed : Listed m top s (top_found known (top_proc m top)).reached
   top_listed = (all_in test (items_found known m.items).reached (top_found known (top_proc m top)).reached (all_listed m top s (outside_instances m top).reached s.outside)).1
 
-  named_by : (o : Option (List ℕ)) (p : Proc) → top_proc m o ≡ Some p → (name : List ℕ) × (as_proc (item_named name m.items) ≡ Some p)
+  pub named_by : (o : Option (List ℕ)) (p : Proc) → top_proc m o ≡ Some p → (name : List ℕ) × (as_proc (item_named name m.items) ≡ Some p)
   named_by (Some name) p e = (name, e)
   named_by None p e = elim (last_named [] m.items None p (names_apart m top s.faults) e) [
     | inl q ↦ none_some p q
     | inr q ↦ (p.name.name, ap as_proc q.0)
   ]
+
+  pub defaults_there : (p : Proc) → top_faults m top (Some p) ≡ [] → list_any lacks_default p.parametrics ≡ false
+  defaults_there p f = by_test (list_any lacks_default p.parametrics) f
+    where
+      by_test : (b : Bool) → (if b then breaks 32 p.name.span ∷ [] else []) ≡ [] → b ≡ false
+      by_test true q = some_fault (breaks 32 p.name.span) [] q
+      by_test false q = refl
 
   pub record TopThere (p : Proc) : Type 0 where
     pub named : IsProcOf m p
@@ -96,7 +103,7 @@ module _ (m : Module) (top : Option (List ℕ)) (s : IsAccepted m top) (procs : 
       let there = typing_right [] seen refl right in
       let empty = none_in seen.faults declared.faults ((λ t. (top_found known (sym e t)).faults) ∙ top_empty) in
       let listed = all_in test declared.reached (top_instance p seen.values) ((λ t. list_all test (top_found known (sym e t)).reached) ∙ top_listed) in
-      let k = parametric_args_there m top s procs complete typed by.0 p by.1 named [] [] tt tt empty.0
+      let k = parametric_args_there m top s loops complete typed by.0 p by.1 named [] [] tt tt empty.0
       (ap (λ (j : JudgedThere). j.faults) (sym there) ∙ empty.1) (ap (λ (j : JudgedThere). list_all test j.reached) (sym there) ∙ listed.0) right in
       let same : top_parametric_args known.items p ≡ k.parametric_args = ap (λ o. unwrap_or o []) k.found in
       let i : Instance = record { name = p.name.name; parametric_args = k.parametric_args } in
@@ -106,10 +113,3 @@ module _ (m : Module) (top : Option (List ℕ)) (s : IsAccepted m top) (procs : 
         own = subst (AllOwn known.items.type_named) (sym same) k.own;
         among = (λ t. test (record { name = p.name.name; parametric_args = same t })) ∙ one.0;
       }
-    where
-      defaults_there : (p : Proc) → top_faults m top (Some p) ≡ [] → list_any lacks_default p.parametrics ≡ false
-      defaults_there p f = by_test (list_any lacks_default p.parametrics) f
-        where
-          by_test : (b : Bool) → (if b then breaks 32 p.name.span ∷ [] else []) ≡ [] → b ≡ false
-          by_test true q = some_fault (breaks 32 p.name.span) [] q
-          by_test false q = refl

@@ -45,10 +45,10 @@ use Rattle.dslx_core.specs.Typing.Typed.Complete.{IsComplete}
 use Rattle.dslx_core.specs.Typing.Typed.Declared.{IsDeclared}
 use Rattle.dslx_core.specs.Typing.Typed.WellTyped.{IsWellTypedEnv, types_at}
 use Rattle.dslx_total.specs.Expressions.Beside.{NamesAreFull, NamesHaveWidths}
-use Rattle.dslx_total.specs.Families.Plain.{ProcsBindNoConstant}
 use Rattle.dslx_total.proofs.Lemmas.Expressions.{sized_there}
 use Rattle.dslx_total.proofs.OnFamilies.Acts.{PartsWellTyped, parts_well_typed}
 use Rattle.dslx_total.proofs.OnFamilies.Nexts.{Opens, opening_there}
+use Rattle.dslx_total.proofs.OnFamilies.Parametrics.{LoopsHaveNoValue}
 use Rattle.dslx_total.proofs.OnFamilies.Reached.{K}
 use Rattle.dslx_total.proofs.OnFamilies.There.{IsThere, well}
 use Rattle.dslx_total.proofs.OnNets.Ends.{EachHasWord, GoesThere}
@@ -121,13 +121,13 @@ sends_fits chans site d chan is way goes = record {
   no_receive = λ e. subst (λ d. GoesThere d chan.kind) (sym way ∙ ap way_of e) goes;
 }
 
-module _ (m : Module) (top : Option (List ℕ)) (s : IsAccepted m top) (procs : ProcsBindNoConstant m) (complete : IsComplete (K m top s)) (typed : AreTyped (K m top s)) (names : NamesHaveWidths (K m top s))
+module _ (m : Module) (top : Option (List ℕ)) (s : IsAccepted m top) (loops : LoopsHaveNoValue m) (complete : IsComplete (K m top s)) (typed : AreTyped (K m top s)) (names : NamesHaveWidths (K m top s))
     (full : NamesAreFull (K m top s)) (chans : List Chan)
     (nexts : (p : Proc) (parametric_args : List DslxValue) → IsThere m top s p parametric_args → (t : DslxType) → state_type_of (K m top s).items p parametric_args ≡ Some t → IsWellTypedNext (K m top s) p parametric_args t) where
   abbrev known : GlobalEnv
   known = K m top s
 
-  pub proc_fits : (a : Elaborated) → MembersStand m top s procs complete typed names full chans a → ProcFits known chans a
+  pub proc_fits : (a : Elaborated) → MembersStand m top s loops complete typed names full chans a → ProcFits known chans a
   proc_fits a h = record {
     keeps = keeps_types chans known a t next sized narrow channels;
     opening = subst (λ (u : Ty). IsOfType u (state_of (opening_state known.items p args))) (sym state_is) (subst (λ o. IsOfType (plain_type t) (state_of o)) (sym opens.is) (plain_typed t opens.value opens.of narrow));
@@ -227,7 +227,7 @@ module _ (m : Module) (top : Option (List ℕ)) (s : IsAccepted m top) (procs : 
       -- words of members
       channels : MembersHaveChannels chans known a
       channels n word e =
-          let o = member_words context env p.members (members_have_words m top s procs complete typed names full chans p args there) n.member word e in
+          let o = member_words context env p.members (members_have_words m top s loops complete typed names full chans p args there) n.member word e in
           let st = h.stands n.member o.0 o.1 in
           let same = same_some st.word word (sym st.typed ∙ o.2) in
           (subst IsWordType same st.fits, width_there chans (site_at a n).chan st.chan st.is ∙ ap width_of (st.ty ∙ ap plain_type same))

@@ -31,9 +31,9 @@ use Rattle.dslx_core.proofs.Lemmas.Typing.Sound.{all_in, none_in, none_in_three,
 use Rattle.dslx_core.proofs.Lemmas.Typing.Typed.{list_parts, or_false, same_some}
 use Rattle.dslx_core.specs.Typing.Complete.HasValue.{AreTyped}
 use Rattle.dslx_core.specs.Typing.Typed.Complete.{IsComplete}
-use Rattle.dslx_total.specs.Families.Plain.{ProcsBindNoConstant}
 use Rattle.dslx_total.specs.Nets.Slashes.{has_slash}
 use Rattle.dslx_total.proofs.OnFamilies.Acts.{parts_well_typed}
+use Rattle.dslx_total.proofs.OnFamilies.Parametrics.{LoopsHaveNoValue}
 use Rattle.dslx_total.proofs.OnFamilies.Reached.{K, Listed, all}
 use Rattle.dslx_total.proofs.OnFamilies.Spawns.{proc_named, spawn_there}
 use Rattle.dslx_total.proofs.OnFamilies.There.{IsThere, well}
@@ -234,7 +234,7 @@ children_none m items path env held (config_statement.Spawn sp ∷ ms) k number 
     let first = spawned m items (elaborate_within m items 0) (child_path path k) env held sp number in
     λ i. spawned_none m items (child_path path k) env held sp number i ++ children_none m items path env held ms (suc k) (number + length first.chans) i
 
-module _ (m : Module) (top : Option (List ℕ)) (s : IsAccepted m top) (procs : ProcsBindNoConstant m) (complete : IsComplete (K m top s)) (typed : AreTyped (K m top s)) (limit : ℕ) (small : limit < 2 ^ 64) where
+module _ (m : Module) (top : Option (List ℕ)) (s : IsAccepted m top) (loops : LoopsHaveNoValue m) (complete : IsComplete (K m top s)) (typed : AreTyped (K m top s)) (limit : ℕ) (small : limit < 2 ^ 64) where
   abbrev known : GlobalEnv
   known = K m top s
 
@@ -263,7 +263,7 @@ module _ (m : Module) (top : Option (List ℕ)) (s : IsAccepted m top) (procs : 
     one_named : (own : List ℕ) (made : Made) (sp : Spawn) (number : ℕ) → (spawn_found context made sp).faults ≡ [] → Listed m top s (spawn_found context made sp).reached
         → SpawnNamed own (spawned m known.items place own env held sp number)
     one_named own made sp number f r =
-        let t = spawn_there m top s procs complete typed p parametric_args (well m top s complete typed p parametric_args here) made sp bound f r in
+        let t = spawn_there m top s loops complete typed p parametric_args (well m top s complete typed p parametric_args here) made sp bound f r in
         let named = proc_named m sp.target.name t.target t.is in
         let there : IsThere m top s t.target t.parametric_args = record { checked = record { named = named; among = one_of_these (record { name = t.target.name.name; parametric_args = t.parametric_args }) (all m top s) t.among }; own = t.own } in
         let given = handed_over t.target.config.ends (channels_of_ends held sp.ends) in

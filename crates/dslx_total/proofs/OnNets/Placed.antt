@@ -41,8 +41,8 @@ use Rattle.dslx_core.specs.Typing.Typed.Complete.{IsComplete}
 use Rattle.dslx_core.specs.Typing.Typed.Declared.{IsDeclared}
 use Rattle.dslx_core.specs.Typing.Typed.WellTyped.{IsWellTypedEnv}
 use Rattle.dslx_total.specs.Expressions.Beside.{NamesAreFull, NamesHaveWidths}
-use Rattle.dslx_total.specs.Families.Plain.{ProcsBindNoConstant}
 use Rattle.dslx_total.proofs.OnFamilies.Acts.{parts_well_typed}
+use Rattle.dslx_total.proofs.OnFamilies.Parametrics.{LoopsHaveNoValue}
 use Rattle.dslx_total.proofs.OnFamilies.Reached.{K, Listed, Passing, all, all_sound, ends_none, reaching}
 use Rattle.dslx_total.proofs.OnFamilies.Spawns.{proc_named, spawn_there, well_behind}
 use Rattle.dslx_total.proofs.OnFamilies.There.{IsThere, well}
@@ -120,7 +120,7 @@ outer_stand known chans context env same number (e ∷ es) words h =
     })
     (outer_stand known chans context env same (suc number) es words.1 (stand_tail chans number (outer_chan env e) (map (outer_chan env) es) h))
 
-module _ (m : Module) (top : Option (List ℕ)) (s : IsAccepted m top) (procs : ProcsBindNoConstant m) (complete : IsComplete (K m top s)) (typed : AreTyped (K m top s)) (names : NamesHaveWidths (K m top s))
+module _ (m : Module) (top : Option (List ℕ)) (s : IsAccepted m top) (loops : LoopsHaveNoValue m) (complete : IsComplete (K m top s)) (typed : AreTyped (K m top s)) (names : NamesHaveWidths (K m top s))
     (full : NamesAreFull (K m top s)) (chans : List Chan) where
   abbrev known : GlobalEnv
   known = K m top s
@@ -186,7 +186,7 @@ module _ (m : Module) (top : Option (List ℕ)) (s : IsAccepted m top) (procs : 
         → (spawn_found context made sp).faults ≡ [] → Listed m top s (spawn_found context made sp).reached
         → StandFrom chans number (spawned m known.items place own env held sp number).chans → FamilyStands (spawned m known.items place own env held sp number)
     one_stands own made before rest sp number h is f r stand =
-        let t = spawn_there m top s procs complete typed p parametric_args sees made sp bound f r in
+        let t = spawn_there m top s loops complete typed p parametric_args sees made sp bound f r in
         let named = proc_named m sp.target.name t.target t.is in
         let there : IsThere m top s t.target t.parametric_args = record { checked = record { named = named; among = one_of_these (record { name = t.target.name.name; parametric_args = t.parametric_args }) (all m top s) t.among }; own = t.own } in
         let so_far = parametric_args_bound [] t.target.parametrics t.parametric_args in

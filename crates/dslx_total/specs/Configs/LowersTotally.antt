@@ -14,12 +14,12 @@ use Rattle.dslx_total.specs.Configs.Spawned.{EachSpawn, HasItsInstance, SpawnsRe
 -- each of its spawns is of an instance that is checked, and wherever all of these are at hand, its `config` is lowered to channels,
 -- children and members
 pub record ConfigLowers (m : Module) (items : Meanings) (top : Option (List ℕ)) (p : Proc) (parametric_args : List DslxValue) : Type 0 where
-  pub spawns : EachSpawn (SpawnsReached m items top (config_scope items p parametric_args)) p.config.config_statements
-  pub becomes : (procs : List ProcInstance) → EachSpawn (HasItsInstance m items (config_scope items p parametric_args) procs) p.config.config_statements → (config : LoweredConfig) × (lower_config m items procs p parametric_args ≡ Some config)
+  pub spawns : EachSpawn (SpawnsReached m top (config_scope items p parametric_args)) p.config.config_statements
+  pub becomes : (procs : List ProcInstance) → EachSpawn (HasItsInstance m (config_scope items p parametric_args) procs) p.config.config_statements → (config : LoweredConfig) × (lower_config m items procs p parametric_args ≡ Some config)
 
 -- the instance of the top proc, whose parametric arguments are its defaults, is checked, and the ends of its `config` are lowered to the
 -- outer channels
 pub record TopLowers (m : Module) (items : Meanings) (top : Option (List ℕ)) (p : Proc) : Type 0 where
-  pub checked : IsReachedProc m items top p (top_parametric_args items p)
+  pub checked : IsReachedProc m top p (top_parametric_args items p)
   pub outer : List Outer
   pub outers : lower_outers items p ≡ Some outer

@@ -4,15 +4,13 @@ use Rattle.dslx_tree.specs.declared.item.Function.{Function}
 use Rattle.dslx_tree.specs.declared.item.Module.{Module}
 use Rattle.dslx_meaning.specs.Items.{as_function, item_named, meanings_of}
 use Rattle.dslx_meaning.specs.Rules.ModuleRules.{instances_of, is_reached}
-use Rattle.dslx_core.specs.Typing.Typed.Numbers.{AllOwn}
 use Rattle.dslx_core.specs.Lowering.Functions.{CoreInstance, Instantiated, instance_in}
 use Rattle.dslx_core.specs.Machines.Machine.Reached.{IsTable}
 
--- an instance of a function that is checked, and whose parametrics have values of their own types
+-- an instance of a function that is checked
 pub record IsReachedInstance (m : Module) (top : Option (List ℕ)) (i : Instantiated) : Type 0 where
   pub function : Function
   pub is : as_function (item_named i.name m.items) ≡ Some function
-  pub own : AllOwn (meanings_of m).type_named i.parametric_args
   pub reached : is_reached (record { name = i.name; parametric_args = i.parametric_args }) (instances_of m top) ≡ true
 
 -- a table of at most so many of the text's instances that has this one

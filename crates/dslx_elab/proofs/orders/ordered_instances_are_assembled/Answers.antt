@@ -10,4 +10,4 @@ returns c = λ m top p limit wanted a is enough order ends.
     let fit = functions.few in
     let few : length functions.known.table ≤ limit = omega (arith, fit, enough) in
     not_given_up m top limit functions.known.table (functions.instances, functions.lowered) few (c.lower_total_reached_nexts.ensures m top a.free a.plain faults functions)
-    (c.lower_total_configs.ensures.configs m top a.free a.plain a.procs faults) p wanted order ends (c.lower_total_configs.ensures.tops m top a.free a.plain a.procs faults p is)
+    (c.lower_total_configs.ensures.configs m top a.free a.plain faults) p wanted order ends (c.lower_total_configs.ensures.tops m top a.free a.plain faults p is)

@@ -21,16 +21,16 @@ IsCountedBy m top p items =
     ≡ count_in (counted_within m items (instances_of m top) (length m.items)) (record { name = p.name.name; parametric_args = top_parametric_args items p })
 
 pub returns : goal.returns
-returns c m top free plain procs faults p e =
+returns c m top free plain faults p e =
     let well_typed = c.items_of_accepted_texts_are_well_typed.ensures.well_typed m top plain faults in
     let denotation = c.items_of_accepted_texts_are_well_typed.ensures.denotation m top free plain faults in
     let complete = c.all_items_are_known.ensures.complete m plain well_typed in
     let typed = c.all_items_are_known.ensures.typed m plain well_typed in
     let s = accepted m top plain faults (c.instances_reach_one_another.ensures.text m top) (c.instances_reach_one_another.ensures.outside m top) in
-    let t = top_there m top s procs complete typed p e in
+    let t = top_there m top s (c.looping_items_mean_nothing.ensures.constant m) complete typed p e in
     let parametric_args = top_parametric_args (globals_of m).items p in
     let counted : IsCountedBy m top p (meanings_of m) = subst (IsCountedBy m top p) denotation
-    (all_counted m top s procs complete typed (length m.items) p.name.name p parametric_args (outer_ends 0 p.config.ends) (length p.config.ends)
+    (all_counted m top s (c.looping_items_mean_nothing.ensures.constant m) complete typed (length m.items) p.name.name p parametric_args (outer_ends 0 p.config.ends) (length p.config.ends)
     (record { checked = record { named = t.named; among = one_of_these (record { name = p.name.name; parametric_args = parametric_args }) (all m top s) t.among }; own = t.own })) in
     let top_count = count_in (counted_within m (meanings_of m) (instances_of m top) (length m.items)) (record { name = p.name.name; parametric_args = top_parametric_args (meanings_of m) p }) in
     let none : 0 + top_count.procs ≡ top_count.procs = omega arith in

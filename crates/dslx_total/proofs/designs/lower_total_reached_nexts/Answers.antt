@@ -1,5 +1,4 @@
 use Rattle.std.proofs.Common.{◌*◌, length}
-use Rattle.dslx_meaning.specs.Items.{meanings_of}
 use Rattle.dslx_total.proofs.Lemmas.Tables.{names_have_widths}
 use Rattle.dslx_total.proofs.OnFamilies.Nexts.{next_lowers_to}
 use Rattle.dslx_total.proofs.OnNets.Full.{names_are_full}
@@ -16,4 +15,4 @@ returns c m top free plain faults functions p parametric_args checked =
     let names = wide (2 * length m.items) in
     let full = names_are_full m wide (2 * length m.items) in
     let s = accepted m top plain faults (c.instances_reach_one_another.ensures.text m top) (c.instances_reach_one_another.ensures.outside m top) in
-    next_lowers_to m top s complete typed names full c.words_of_ends_have_widths.ensures.widths c.members_stand.ensures c.lower_total_next.ensures denotation functions p parametric_args (is_there m top s (meanings_of m) denotation p parametric_args checked)
+    next_lowers_to m top s complete typed names full c.words_of_ends_have_widths.ensures.widths c.members_stand.ensures c.lower_total_next.ensures denotation functions p parametric_args (is_there m top s (c.checked_instances_are_own.ensures m top plain faults) p parametric_args checked)

@@ -11,7 +11,7 @@ use Rattle.dslx_total.proofs.OnFamilies.Tops.{top_there}
 use Rattle.dslx_total.proofs.families.accepted_texts_are_well_typed.Goals as goal
 
 pub returns-clause-well_typed : goal.returns-clause-well_typed
-returns-clause-well_typed c = λ m top free plain procs accepted.
+returns-clause-well_typed c = λ m top free plain accepted.
     let well_typed = c.items_of_accepted_texts_are_well_typed.ensures.well_typed m top plain accepted in
     let denotation = c.items_of_accepted_texts_are_well_typed.ensures.denotation m top free plain accepted in
     let complete = c.all_items_are_known.ensures.complete m plain well_typed in
@@ -28,15 +28,15 @@ returns-clause-well_typed c = λ m top free plain procs accepted.
       plain = plain;
       items = well_typed;
       procs = λ p e.
-          let t = top_there m top s procs complete typed p e in
+          let t = top_there m top s (c.looping_items_mean_nothing.ensures.constant m) complete typed p e in
           let known = globals_of m in
           let parametric_args = top_parametric_args known.items p in
           let words = c.words_of_ends_have_widths.ensures.values in
           subst (λ (x : Meanings). EachProcIsWellTyped known (elaborate_within m x (length m.items) p.name.name p (top_parametric_args x p) (outer_ends 0 p.config.ends) (length p.config.ends)).procs) denotation
           (each_well_typed known _
-          (all_elaborated m top s procs complete typed names words (IsWellTypedProc known) (well_typed_proc m top s procs complete typed names words) (length m.items) p.name.name p parametric_args (outer_ends 0 p.config.ends) (length p.config.ends)
+          (all_elaborated m top s (c.looping_items_mean_nothing.ensures.constant m) complete typed names words (IsWellTypedProc known) (well_typed_proc m top s (c.looping_items_mean_nothing.ensures.constant m) complete typed names words) (length m.items) p.name.name p parametric_args (outer_ends 0 p.config.ends) (length p.config.ends)
           (record { checked = record { named = t.named; among = one_of_these (record { name = p.name.name; parametric_args = parametric_args }) (all m top s) t.among }; own = t.own })));
     }
 
 pub returns-clause-stands : goal.returns-clause-stands
-returns-clause-stands c = λ m top design free plain procs accepted made. c.well_typed_texts_simulate.ensures m top design (returns-clause-well_typed c m top free plain procs accepted) made
+returns-clause-stands c = λ m top design free plain accepted made. c.well_typed_texts_simulate.ensures m top design (returns-clause-well_typed c m top free plain accepted) made
