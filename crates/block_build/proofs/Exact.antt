@@ -11,7 +11,7 @@ use Rattle.block_stage.proofs.Lemmas.Machine.{always_fed_words_move_in_their_cyc
 use Rattle.block_build.specs.Block.{Block, IsBlock}
 use Rattle.block_build.specs.Fed.{IsOuter, IsRowFed, AreRowsFed}
 use Rattle.block_build.specs.Rows.{State, InputRow, valid_word_by, room_by, valid_word_at, room_at, depth_of, HasReset, reset_state, ports_in, sender_of, one_row, after_rows, state_after, since_reset, sent_of, moved_out}
-use Rattle.block_build.proofs.Standing.{Stands, there, stands_next, stands_at_reset}
+use Rattle.block_build.proofs.Lemmas.Standing.{Stands, there, stands_next, stands_at_reset}
 use Rattle.block_build.proofs.Resets.{since_the_last_reset}
 
 -- what the block's own ports have, its pipelines' have

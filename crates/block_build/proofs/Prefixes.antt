@@ -24,7 +24,7 @@ use Rattle.block_build.specs.Block.{Block, IsBlock, run_of, receiver_of}
 use Rattle.block_build.specs.Rows.{Machine, State, InputRow, HasReset, reset_state, ports_in, sender_of, is_reader_ready, machine_after, one_row, after_rows, state_after, since_reset, received_of, sent_of, moved_in, moved_out}
 use Rattle.block_build.proofs.Words.{cases, input_words, output_words, inner_words, sent_grow, received_grow, none_passes, one_passes}
 use Rattle.block_build.proofs.Resets.{since_the_last_reset}
-use Rattle.block_build.proofs.Standing.{machine_of, Stands, reads_next, there, sites_there, stands_next, stands_at_reset}
+use Rattle.block_build.proofs.Lemmas.Standing.{machine_of, Stands, reads_next, there, sites_there, stands_next, stands_at_reset}
 
 -- a proc's events in the unbounded cut are its trace over the words there
 settled : (block : Block) (inputs : List (List Word)) (n p : ℕ) (q : Pipeline) → slice_get block.pipelines p ≡ Some q

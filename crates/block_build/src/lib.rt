@@ -2,7 +2,6 @@
 #![tactic(auto)]
 
 pub mod laws;
-pub mod netlist;
 mod ports;
 
 pub use ports::{room, valid_word};

@@ -1,4 +1,4 @@
-use Rattle.block_build.proofs.Driven.{nothing_is_ready_in_reset, nothing_is_offered_in_reset}
+use Rattle.block_build.proofs.Lemmas.Driven.{nothing_is_ready_in_reset, nothing_is_offered_in_reset}
 use Rattle.block_build.proofs.laws.nothing_is_driven_in_reset.Goals as goal
 
 pub returns-clause-inputs : goal.returns-clause-inputs

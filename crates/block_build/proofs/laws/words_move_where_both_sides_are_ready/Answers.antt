@@ -1,4 +1,4 @@
-use Rattle.block_build.proofs.Driven.{outputs_move, inputs_move}
+use Rattle.block_build.proofs.Lemmas.Driven.{outputs_move, inputs_move}
 use Rattle.block_build.proofs.laws.words_move_where_both_sides_are_ready.Goals as goal
 
 pub returns-clause-outputs : goal.returns-clause-outputs

@@ -1,0 +1,2 @@
+-- what the nodes of verified procs show
+pub mod Fitting
