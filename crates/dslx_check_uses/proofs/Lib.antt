@@ -1,0 +1,6 @@
+-- inference
+mod OnInference
+-- names of fields, and items by their numbers
+mod OnFields
+-- channels by their names
+mod OnChannels

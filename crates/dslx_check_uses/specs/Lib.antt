@@ -1,0 +1,10 @@
+-- nodes that use other declarations, by what their parts came to
+pub mod Uses
+-- what operands infer
+pub mod Inferring
+-- forms of calls
+pub mod Forms
+-- channels by their names
+pub mod Ends
+-- contracts of private parts
+pub mod Inner
