@@ -1,0 +1,4 @@
+-- the types of expressions
+pub mod Typing
+-- what they say of values
+pub mod Sound

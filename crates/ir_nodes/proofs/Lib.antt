@@ -1,0 +1,6 @@
+pub mod TypesOf
+pub mod Lemmas
+pub mod Putting
+pub mod OnKinds
+pub mod Counting
+pub mod OnTests
