@@ -1,0 +1,4 @@
+-- parametrics of calls
+mod OnArguments
+-- calls by their parametrics
+mod OnCallees
