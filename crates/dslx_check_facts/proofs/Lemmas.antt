@@ -7,3 +7,5 @@ pub mod Judged
 pub mod Items
 -- what names stand for
 pub mod Envs
+-- the first item of a name
+pub mod Firsts

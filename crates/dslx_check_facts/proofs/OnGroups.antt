@@ -18,7 +18,7 @@ use Rattle.dslx_check_rules.specs.Interned.{AreDistinct}
 use Rattle.dslx_check_facts.specs.Known.{group_named, is_cyclic, is_cyclic_named, item_at, item_names, same_group, text_of}
 use Rattle.dslx_check_facts.specs.Names.{definition_at, name_at, name_or}
 use Rattle.dslx_check_facts.specs.declared.facts.Facts.{Facts}
-use Rattle.dslx_check_facts.proofs.OnNames.Firsts.{stands_first}
+use Rattle.dslx_check_facts.proofs.Lemmas.Firsts.{stands_first}
 
 -- ---- an item has a number by its name
 

@@ -20,6 +20,7 @@ use Rattle.dslx_meaning.specs.Rules.NodeRules.{expr_pair}
 use Rattle.dslx_meaning.specs.Rules.PatternRules.{is_there}
 use Rattle.dslx_meaning.specs.Rules.Namesakes.{told_apart}
 use Rattle.dslx_check_items.specs.Items.{item_number}
+use Rattle.dslx_check_items.specs.Reaching.{item_needs}
 use Rattle.dslx_check_rules.specs.declared.table.row.TypeId.{TypeId}
 use Rattle.dslx_check_rules.specs.declared.table.row.TypeRow.{TypeRow}
 use Rattle.dslx_check_rules.specs.Seen.{capped}
@@ -150,6 +151,7 @@ pub record IsSum (known : GlobalEnv) (instance : Instance) (sums : Sums) : Type 
 pub record FactsHold (f : Facts) (later : WalkShown) (known : GlobalEnv) : Type 0 where
   pub whole : known.whole ≡ told_apart (text_of f)
   pub distinct : AreDistinct (item_names f)
+  pub needs : f.reaching.needs.items ≡ item_needs (text_of f)
   pub is_constant : (name : List ℕ) → known.items.is_constant name ≡ is_constant_item (item_named name known.whole.items)
   pub cyclic : (i j : ℕ) → known.is_cyclic ((item_names f).item i) ((item_names f).item j) ≡ is_cyclic f i j
   -- of names of other items

@@ -14,7 +14,7 @@ use dslx_tree::{Constant, Definition, Enum, Function, Struct};
 
 impl<'a> Facts<'a> {
     /// The first item of a name, with its number.
-    #[tactic(auto, using(crate::proofs::OnNames::Firsts::meant, crate::proofs::OnNames::Firsts::nothing_meant))]
+    #[tactic(auto, using(crate::proofs::Lemmas::Firsts::meant, crate::proofs::Lemmas::Firsts::nothing_meant))]
     pub fn item(&self, name: &Name) -> Option<(u32, &'a Definition)>
         ensures { MatchOption result (meant_by self.now name.now ≡ None) (λ p. IsMeant self.now name.now p.0 p.1.now) }
     {

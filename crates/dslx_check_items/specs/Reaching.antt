@@ -27,6 +27,7 @@ abbrev pub item_needs : Module → List (List ℕ)
 item_needs m = map (definition_needs m) (map definition_of m.items)
 
 pub record AreReached (needs : List (List ℕ)) (reached : Reaching) : Type 0 where
+  pub kept : reached.needs.items ≡ needs
   pub groups : AreGroups needs reached.groups.items
   pub size : length reached.loops.items ≡ length needs
   pub loops : (i : ℕ) (does : Bool) → slice_get reached.loops.items i ≡ Some does → MatchBool does (Reaches needs i i) (¬ (Reaches needs i i))

@@ -18,6 +18,8 @@ use topo_order::{groups_of, needing_themselves};
 /// Which items of a text reach themselves, and which one another: by mentioning them, or something that reaches them.
 #[derive(Drop)]
 pub struct Reaching {
+    /// Of each item the items that its text mentions.
+    pub needs: Vec<Items<u32>>,
     pub groups: Vec<u32>,
     pub loops: Vec<bool>,
 }
@@ -46,17 +48,21 @@ pub fn reaching_of(alloc: Global, items: &ItemTable<'_>) -> Result<Reaching, All
     ensures { IfOk result (λ reached. AreReached (item_needs items.now.text.now) reached) }
 {
     let needs = needs_of(alloc, items)?;
-    reached_by(alloc, needs.as_slice())
+    reached_by(alloc, needs)
 }
 
-fn reached_by(alloc: Global, needs: &[Items<u32>]) -> Result<Reaching, AllocError>
-    requires closed { AreClosed needs.now }
-    requires few { length needs.now < 2 ^ 32 }
-    ensures { IfOk result (λ reached. AreReached needs.now reached) }
+fn reached_by(alloc: Global, needs: Vec<Items<u32>>) -> Result<Reaching, AllocError>
+    requires closed { AreClosed needs.items }
+    requires few { length needs.items < 2 ^ 32 }
+    ensures { IfOk result (λ reached. AreReached needs.items reached) }
 {
-    let groups = groups_of(alloc, needs)?;
-    let loops = needing_themselves(alloc, needs)?;
-    Ok(Reaching { groups, loops })
+    let groups = groups_of(alloc, needs.as_slice())?;
+    let loops = needing_themselves(alloc, needs.as_slice())?;
+    Ok(Reaching {
+        needs,
+        groups,
+        loops,
+    })
 }
 
 /// Of each item the items that its text mentions.

@@ -6,14 +6,14 @@ use Rattle.dslx_check_items.proofs.OnReaching.Reached.{as_many, needs_closed}
 use Rattle.dslx_check_items.proofs.reaching.reaching_of.Goals as goal
 
 pub reached_by-requires-clause-closed : goal.reached_by-requires-clause-closed
-reached_by-requires-clause-closed c = subst AreClosed (sym (c.as_slice.ensures.value ∙ c.in_ok-needs.ensures)) (needs_closed c.args.items.now.text.now)
+reached_by-requires-clause-closed c = subst AreClosed (sym c.in_ok-needs.ensures) (needs_closed c.args.items.now.text.now)
 
 pub reached_by-requires-clause-few : goal.reached_by-requires-clause-few
 reached_by-requires-clause-few c =
-    let size = ap length (c.as_slice.ensures.value ∙ c.in_ok-needs.ensures) ∙ as_many c.args.items.now.text.now in
+    let size = ap length c.in_ok-needs.ensures ∙ as_many c.args.items.now.text.now in
     let few = c.args.items.now.few in
     omega (arith, size, few)
 
 pub returns : goal.returns
 returns c =
-    subst (λ (needs : List (List ℕ)). IfOk c.reached_by.result (λ reached. AreReached needs reached)) (c.as_slice.ensures.value ∙ c.in_ok-needs.ensures) c.reached_by.ensures
+    subst (λ (needs : List (List ℕ)). IfOk c.reached_by.result (λ reached. AreReached needs reached)) c.in_ok-needs.ensures c.reached_by.ensures

@@ -1,5 +1,5 @@
 use Rattle.std.proofs.Common.{◌≡◌, ◌∙◌, sym}
-use Rattle.dslx_check_facts.proofs.OnNames.Firsts.{at_mapped, meant, number_within}
+use Rattle.dslx_check_facts.proofs.Lemmas.Firsts.{at_mapped, meant, number_within}
 use Rattle.dslx_check_facts.proofs.facts.Facts.item.Goals as goal
 
 pub get-requires : goal.get-requires
