@@ -1,3 +1,5 @@
+-- what is checked
+pub mod OnClosed
 -- `config`
 pub mod OnConfigs
 -- designs

@@ -1,6 +1,7 @@
 //! Each accepted text is lowered to a checked text, with all that it reaches.
 #![tactic(auto)]
 
+pub mod checked;
 pub mod configs;
 pub mod counts;
 pub mod designs;

@@ -11,6 +11,7 @@ ghost use Rattle.dslx_total.specs.Texts.WellTypedTexts.{IsWellTypedText};
 pub fn well_typed_texts_simulate()
     ensures { (m : Module) (top : Option (List ℕ)) (design : Design) → IsWellTypedText m top → IsDesignFrom m top design → CoreOf m top design }
 {
+    dslx_core::typing::laws::recursion_ends();
     dslx_core::typing::known::all_items_are_known();
     dslx_core::typing::denotation::global_env_is_sound();
     dslx_core::constants::items_are_own();

@@ -5,6 +5,8 @@ pub mod Accepted
 pub mod Activities
 -- items
 pub mod Complete
+-- denotations
+pub mod Denotation
 -- what values depend on
 pub mod Depends
 -- what judgements depend on

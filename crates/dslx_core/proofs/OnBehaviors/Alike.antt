@@ -11,14 +11,13 @@ use Rattle.dslx_tree.specs.declared.block.Block.{out-Block}
 use Rattle.dslx_tree.specs.declared.item.Module.{Module}
 use Rattle.dslx_tree.specs.declared.process.Proc.{Proc}
 use Rattle.dslx_meaning.specs.Activation.{Activity, activation_of, site_names, state_of, turn_at}
-use Rattle.dslx_meaning.specs.Items.{meanings_of, meanings_over}
+use Rattle.dslx_meaning.specs.Items.{meanings_of}
 use Rattle.dslx_meaning.specs.Lists.{and_then, where_true}
 use Rattle.dslx_meaning.specs.Network.{Elaborated, behavior_at, behaviors_if, behaviors_of, chans_of_top, family_of, head_at, width_of_chan}
 use Rattle.dslx_meaning.specs.Types.{plain_type}
 use Rattle.dslx_meaning.specs.declared.ty.DslxType.{DslxType}
 use Rattle.dslx_meaning.specs.declared.value.DslxValue.{DslxValue}
 use Rattle.dslx_meaning.specs.Rules.TypeEnvs.{GlobalEnv}
-use Rattle.dslx_core.specs.Typing.Laws.Recursion.{HasNoCycle}
 use Rattle.dslx_core.proofs.Lemmas.Typing.Typed.{same_some}
 use Rattle.dslx_core.specs.CoreOf.{BehavesAlike, CoreOf, EachBehavesAlike}
 use Rattle.dslx_core.specs.Designs.{CoreActivity, CoreElaborated, core_activation, core_behavior, core_behaviors, core_chans, core_family, core_head, do_steps, functions_of, token}
@@ -28,14 +27,14 @@ use Rattle.dslx_core.specs.Lowering.Activities.{DoesTheSame}
 use Rattle.dslx_core.specs.Lowering.CoreScopes.{BodyEnv, with_local}
 use Rattle.dslx_core.specs.Lowering.EqualTypes.{equal_type}
 use Rattle.dslx_core.specs.Lowering.Functions.{CoreInstance, Instantiated, instances_from, parametric_args_are_well_typed, outer_scope}
-use Rattle.dslx_core.specs.Lowering.Instances.{ItemsAreOwn, functions_of_instances}
+use Rattle.dslx_core.specs.Lowering.Instances.{CallsSettle, ItemsAreOwn, functions_of_instances}
 use Rattle.dslx_core.specs.Lowering.Steps.{LoweredNext, is_sized, lower_next, proc_globals, statements_steps, steps_from}
 use Rattle.dslx_core.specs.Lowering.Trees.{lower_type_of_text}
 use Rattle.dslx_core.proofs.Lemmas.Lowering.{from_plain, from_then, from_where, next_of_instances, state_of_instances}
 use Rattle.dslx_core.specs.Typing.Activities.ActivityGoesOn.{ActivityGoesOn, Ends, Waits}
 use Rattle.dslx_core.specs.Typing.Activities.Members.{IsWellTypedNext}
 use Rattle.dslx_core.proofs.Lemmas.Typing.Activities.{activation_goes}
-use Rattle.dslx_core.specs.Networks.Assembly.{IsDesignFrom}
+use Rattle.dslx_core.specs.Networks.Assembly.{DesignEnds, IsDesignFrom}
 use Rattle.dslx_core.proofs.Lemmas.Networks.{AllSimulate, LowersTo, CoreSimulates, chans_alike, design_made, family_simulates, head_alike, networks_alike}
 use Rattle.dslx_core.specs.Behaviors.WellTypedNexts.{EachNextIsWellTyped, HasWellTypedNexts, NextIsWellTyped}
 use Rattle.dslx_core.proofs.OnBehaviors.Waits.{WaitsThere, steps_wait}
@@ -69,7 +68,7 @@ state_is_sized known p l low =
 
 -- ---- a proc
 
-module _ (m : Module) (settled : meanings_over m (meanings_of m) ≡ meanings_of m) (own : ItemsAreOwn (meanings_of m)) (known : GlobalEnv) (is : List Instantiated) (functions : List CoreInstance)
+module _ (m : Module) (own : ItemsAreOwn (meanings_of m)) (known : GlobalEnv) (is : List Instantiated) (functions : List CoreInstance) (settled : CallsSettle m (meanings_of m) is)
     (each : instances_from m (meanings_of m) [] is ≡ Some functions) where
   activation_alike : (p : Proc) (parametric_args : List DslxValue) (l : LoweredNext) → lower_next (proc_globals m (meanings_of m) functions p parametric_args) p ≡ Some l → IsWellTypedNext known p parametric_args l.state
       → (state : Value) → IsOfType (plain_type l.state) state → (words : List Word) → activation_of known.items p parametric_args state words ≡ activation_of (meanings_of m) p parametric_args state words
@@ -78,7 +77,7 @@ module _ (m : Module) (settled : meanings_over m (meanings_of m) ≡ meanings_of
       let of = (from_plain l.state (state_is_sized (proc_globals m (meanings_of m) functions p parametric_args) p l low) state typed).0 in
       let goes = activation_goes known p parametric_args l.state well_typed state of words in
       one_activity l.state (length (site_names p)) words (activation_of (meanings_of m) p parametric_args state words) (do_steps (functions_of_instances functions) l.steps l.next (state ∷ []) words)
-      (next_of_instances m (meanings_of m) settled own is functions each p parametric_args l low state words typed)
+      (next_of_instances m (meanings_of m) own is functions settled each p parametric_args l low state words typed)
       (subst (ActivityGoesOn l.state (length (site_names p)) words) means goes)
       (steps_wait (functions_of_instances functions) l.steps l.next (state ∷ []) words)
 
@@ -97,10 +96,10 @@ module _ (m : Module) (settled : meanings_over m (meanings_of m) ≡ meanings_of
       b = stands.instance
 
       head : core_head c ≡ head_at (meanings_of m) a
-      head = head_alike m (meanings_of m) settled own is functions each a c stands
+      head = head_alike m (meanings_of m) own is functions settled each a c stands
 
       own_well_typed : IsWellTypedNext known a.proc a.parametric_args b.next.state
-      own_well_typed = well_typed.well_typed b.next.state (well_typed.state ∙ state_of_instances m (meanings_of m) settled own is functions each a.proc a.parametric_args b.next b.lowered)
+      own_well_typed = well_typed.well_typed b.next.state (well_typed.state ∙ state_of_instances m (meanings_of m) own is functions settled each a.proc a.parametric_args b.next b.lowered)
 
       alike : (state : Value) → IsOfType c.instance.state state → (words : List Word) → IsOneActivity (activation_of (meanings_of m) a.proc a.parametric_args state words) (core_activation (functions_of design) c.instance state words)
       alike state typed words =
@@ -117,15 +116,15 @@ module _ (m : Module) (settled : meanings_over m (meanings_of m) ≡ meanings_of
 
 -- ---- the whole
 
-pub texts_simulate : (m : Module) (top : Option (List ℕ)) (design : Design) → HasNoCycle m → meanings_over m (meanings_of m) ≡ meanings_of m → ItemsAreOwn (meanings_of m) → IsDesignFrom m top design → HasWellTypedNexts m top → CoreOf m top design
-texts_simulate m top design free settled own h well_typed = record {
-  network = networks_alike m top design free own h settled;
+pub texts_simulate : (m : Module) (top : Option (List ℕ)) (design : Design) → ItemsAreOwn (meanings_of m) → (h : IsDesignFrom m top design) → DesignEnds m top design h → HasWellTypedNexts m top → CoreOf m top design
+texts_simulate m top design own h ends well_typed = record {
+  network = networks_alike m top design own h ends;
   behaviors =
       subst (λ d. EachBehavesAlike (core_behaviors d) (behaviors_of m top)) (sym h.design_is)
       (subst (EachBehavesAlike (core_behaviors made)) (sym (ap (behaviors_if m) h.is_top))
-      (behaviors_alike m settled own well_typed.known h.named_functions h.functions h.each_function made refl (chans_of_top m h.proc) (chans_alike m top design free own h) (family_of m h.proc).procs (core_family made).procs
-      (family_simulates m top design free own h).procs (well_typed.nexts h.proc h.is_top)));
+      (behaviors_alike m own well_typed.known h.named_functions h.functions ends.functions h.each_function made refl (chans_of_top m h.proc) (chans_alike m top design own h ends) (family_of m h.proc).procs (core_family made).procs
+      (family_simulates m top design own h ends).procs (well_typed.nexts h.proc h.is_top)));
 }
   where
     made : Design
-    made = design_made m top design free own h
+    made = design_made m top design own h ends

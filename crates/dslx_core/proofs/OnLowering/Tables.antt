@@ -28,7 +28,7 @@ use Rattle.dslx_core.specs.Lowering.EqualTypes.{equal_type}
 use Rattle.dslx_core.specs.Lowering.Trees.{lower_block_of_text}
 use Rattle.dslx_core.specs.Lowering.Correspondence.{CallsSimulate, HidesNoConstant, IsOwn, SimulatesInScope, BodyEnvSimulates}
 use Rattle.dslx_core.specs.Lowering.Functions.{CoreInstance, Instantiated, LoweredFunction, argument_types, arguments_in_scope, lower_function_body, callee_in, callee_of, core_function, instance_globals, instance_in, lower_instance, instances_from, is_instance, next_instance, parametric_args_are_well_typed, outer_scope}
-use Rattle.dslx_core.specs.Lowering.Instances.{InstanceSimulates, InstancesSimulate, ItemsAreOwn, functions_of_instances}
+use Rattle.dslx_core.specs.Lowering.Instances.{CallSettles, CallsSettle, InstanceSimulates, InstancesSimulate, ItemsAreOwn, functions_of_instances}
 use Rattle.dslx_core.proofs.OnLowering.Joined.{block_of_text_means}
 use Rattle.dslx_core.proofs.OnLowering.Kept.{from_then, from_where}
 use Rattle.dslx_meaning.specs.Rules.EqualValues.{equal_value}
@@ -173,13 +173,18 @@ each_own_type [] (v ∷ vs) e = absurd (true≢false (sym e))
 each_own_type (t ∷ ts) [] e = absurd (true≢false (sym e))
 each_own_type (t ∷ ts) (v ∷ vs) e = let q = and_true (is_of t v) (each_of (map is_of ts) vs) e in λ i. one_type t v q.0 i ∷ each_own_type ts vs q.1 i
 
--- instances that stand for those of the text
-abbrev AllStand : Module → Meanings → List CoreInstance → Functions → Type 0
-AllStand m items instances calls = (k : ℕ) (i : CoreInstance) → slice_get instances k ≡ Some i → InstanceSimulates m items calls k i
+-- instances that stand for those of the text, of functions that have what their texts give
+abbrev pub AllStand : Module → Meanings → List CoreInstance → Functions → Type 0
+AllStand m items instances calls = (k : ℕ) (i : CoreInstance) → slice_get instances k ≡ Some i → InstanceSimulates m items calls k i × CallSettles m items i.name
 
-pub calls_simulate : (m : Module) (items : Meanings) → meanings_over m items ≡ items → (instances : List CoreInstance) (calls : Functions) → AllStand m items instances calls → (parametric_args : List Given)
+-- all functions have, where the items do
+pub calls_settle : (m : Module) (items : Meanings) → meanings_over m items ≡ items → (is : List Instantiated) → CallsSettle m items is
+calls_settle m items settled [] = tt
+calls_settle m items settled (i ∷ is) = (λ given operands. ap (λ (x : Meanings). x.call i.name given operands) settled, calls_settle m items settled is)
+
+pub calls_simulate : (m : Module) (items : Meanings) (instances : List CoreInstance) (calls : Functions) → AllStand m items instances calls → (parametric_args : List Given)
     → CallsSimulate (record { items = items; parametric_args = parametric_args; callee = callee_in m items instances }) calls
-calls_simulate m items settled instances calls h bound name given operands types callee v low of source =
+calls_simulate m items instances calls h bound name given operands types callee v low of source =
     let f = from_then (as_function (item_named name m.items)) (λ f. and_then (all_parametric_args items (inferred_from f.arguments types) [] f.parametrics given) (λ parametric_args. and_then (instance_in name parametric_args 0 instances) (callee_of types))) callee low in
     let n = from_then (all_parametric_args items (inferred_from f.0.arguments types) [] f.0.parametrics given) (λ parametric_args. and_then (instance_in name parametric_args 0 instances) (callee_of types)) callee f.2 in
     let p = from_then (instance_in name n.0 0 instances) (callee_of types) callee n.2 in
@@ -187,12 +192,13 @@ calls_simulate m items settled instances calls h bound name given operands types
     let found = found_instance name n.0 0 instances p.0 p.1 in
     let is = same_some (record { number = p.0.0; result = p.0.1.function.result }) callee w.1 in
     let own : map type_of_value operands ≡ types = each_own_type types operands of in
-    let denotation : and_then (as_function (item_named name m.items)) (λ f. call_of items f given operands) ≡ Some v = ap (λ (x : Meanings). x.call name given operands) settled ∙ source in
+    let there = h found.place p.0.1 found.there in
+    let denotation : and_then (as_function (item_named name m.items)) (λ f. call_of items f given operands) ≡ Some v = subst (CallSettles m items) (sym found.named) there.1 given operands ∙ source in
     let called : call_of items f.0 given operands ≡ Some v = sym (ap (λ o. and_then o (λ f. call_of items f given operands)) f.1) ∙ denotation in
     let parametric_args : all_parametric_args items (inferred_from f.0.arguments (map type_of_value operands)) [] f.0.parametrics given ≡ Some n.0 = ap (λ ts. all_parametric_args items (inferred_from f.0.arguments ts) [] f.0.parametrics given) own ∙ n.1 in
     let gives : function_value items f.0 n.0 operands ≡ Some v = sym (ap (λ o. and_then o (λ parametric_args. function_value items f.0 parametric_args operands)) parametric_args) ∙ called in
     let stands =
-    h found.place p.0.1 found.there f.0 operands v (ap (λ n. as_function (item_named n m.items)) (sym found.named) ∙ f.1)
+    there.0 f.0 operands v (ap (λ n. as_function (item_named n m.items)) (sym found.named) ∙ f.1)
     (ap (λ ts. each_of (map is_of ts) operands) (each_equal p.0.1.function.arguments types w.0) ∙ of) (ap (λ ns. function_value items f.0 ns operands) (sym found.numbered) ∙ gives) in (
       ap (λ (c : CoreCallee). is_of c.result v) (sym is) ∙ stands.0,
       ap (λ (c : CoreCallee). calls c.number (map plain_value operands)) (sym is) ∙ ap (λ k. calls k (map plain_value operands)) (found.number ∙ nothing_added found.place) ∙ stands.1,
@@ -221,9 +227,9 @@ not_the_end k n h = by_test (k == n) refl
     by_test false q = refl
 
 -- what stands for them, where one more comes behind them
-grown : (m : Module) (items : Meanings) → meanings_over m items ≡ items → ItemsAreOwn items → (before : List CoreInstance) (calls : Functions) → AllStand m items before calls → (i : Instantiated) (c : CoreInstance)
+grown : (m : Module) (items : Meanings) → ItemsAreOwn items → (before : List CoreInstance) (calls : Functions) → AllStand m items before calls → (i : Instantiated) (c : CoreInstance) → CallSettles m items i.name
     → next_instance m items before i ≡ Some c → AllStand m items (before ++ c ∷ []) (and_function (length before) (core_function c) calls)
-grown m items settled own before calls h i c e k j there = by_scope (at_the_end before c k j there)
+grown m items own before calls h i c settled e k j there = by_scope (at_the_end before c k j there)
   where
     function : (f : Function) × (l : LoweredFunction) × (as_function (item_named i.name m.items) ≡ Some f) × (lower_instance (instance_globals m items before f i.parametric_args) f ≡ Some l)
         × (record { name = i.name; parametric_args = i.parametric_args; function = l } ≡ c)
@@ -241,7 +247,7 @@ grown m items settled own before calls h i c e k j there = by_scope (at_the_end 
           constants = own.constants;
           members = own.members;
           hides = parametric_args_hide items known.parametric_args test;
-          callees = calls_simulate m items settled before calls h known.parametric_args;
+          callees = calls_simulate m items before calls h known.parametric_args;
         }
 
     last : (f : Function) (l : LoweredFunction) → as_function (item_named i.name m.items) ≡ Some f → lower_instance (instance_globals m items before f i.parametric_args) f ≡ Some l
@@ -261,20 +267,22 @@ grown m items settled own before calls h i c e k j there = by_scope (at_the_end 
 
     earlier : slice_get before k ≡ Some j → InstanceSimulates m items (and_function (length before) (core_function c) calls) k j
     earlier p f operands v named of source =
-        let stands = h k j p f operands v named of source in (
+        let stands = (h k j p).0 f operands v named of source in (
           stands.0,
           ap (λ b. if b then (if length (map plain_value operands) == length c.function.arguments then core_value c.function.body calls (map plain_value operands) else None) else calls k (map plain_value operands))
               (not_the_end k (length before) (slice_get_within before k j p))
               ∙ stands.1,
         )
 
-    by_scope : (slice_get before k ≡ Some j) ⊎ ((k ≡ length before) × (c ≡ j)) → InstanceSimulates m items (and_function (length before) (core_function c) calls) k j
-    by_scope (inl p) = earlier p
+    by_scope : (slice_get before k ≡ Some j) ⊎ ((k ≡ length before) × (c ≡ j)) → InstanceSimulates m items (and_function (length before) (core_function c) calls) k j × CallSettles m items j.name
+    by_scope (inl p) = (earlier p, (h k j p).1)
     by_scope (inr p) =
-        let q = function in
-        subst (λ n. InstanceSimulates m items (and_function (length before) (core_function c) calls) n j) (sym p.0)
-        (subst (InstanceSimulates m items (and_function (length before) (core_function c) calls) (length before)) p.1
-        (subst (λ x. InstanceSimulates m items (and_function (length before) (core_function x) calls) (length before) x) q.4 (last q.0 q.1 q.2 q.3)))
+        let q = function in (
+          subst (λ n. InstanceSimulates m items (and_function (length before) (core_function c) calls) n j) (sym p.0)
+              (subst (InstanceSimulates m items (and_function (length before) (core_function c) calls) (length before)) p.1
+              (subst (λ x. InstanceSimulates m items (and_function (length before) (core_function x) calls) (length before) x) q.4 (last q.0 q.1 q.2 q.3))),
+          subst (λ (x : CoreInstance). CallSettles m items x.name) (q.4 ∙ p.1) settled,
+        )
 
 functions_behind : (n : ℕ) (fs : List core.Function) (f : core.Function) (before : Functions) → functions_from n (fs ++ f ∷ []) before ≡ and_function (n + length fs) f (functions_from n fs before)
 functions_behind n [] f before = ap (λ k. and_function k f before) (nothing n)
@@ -302,15 +310,18 @@ one_more_function before c =
     nothing_added : (k : ℕ) → (0 + k) ≡ k
     nothing_added k = omega arith
 
-instances_simulate_behind : (m : Module) (items : Meanings) → meanings_over m items ≡ items → ItemsAreOwn items → (is : List Instantiated) (before table : List CoreInstance)
+instances_simulate_behind : (m : Module) (items : Meanings) → ItemsAreOwn items → (is : List Instantiated) → CallsSettle m items is → (before table : List CoreInstance)
     → AllStand m items before (functions_of_instances before) → instances_from m items before is ≡ Some table → AllStand m items table (functions_of_instances table)
-instances_simulate_behind m items settled own [] before table h e = subst (λ t. AllStand m items t (functions_of_instances t)) (same_some before table e) h
-instances_simulate_behind m items settled own (i ∷ is) before table h e =
+instances_simulate_behind m items own [] settled before table h e = subst (λ t. AllStand m items t (functions_of_instances t)) (same_some before table e) h
+instances_simulate_behind m items own (i ∷ is) settled before table h e =
     let c = from_then (next_instance m items before i) (λ c. instances_from m items (before ++ c ∷ []) is) table e in
-    instances_simulate_behind m items settled own is (before ++ c.0 ∷ []) table
-    (subst (AllStand m items (before ++ c.0 ∷ [])) (sym (one_more_function before c.0)) (grown m items settled own before (functions_of_instances before) h i c.0 c.1)) c.2
+    instances_simulate_behind m items own is settled.1 (before ++ c.0 ∷ []) table
+    (subst (AllStand m items (before ++ c.0 ∷ [])) (sym (one_more_function before c.0)) (grown m items own before (functions_of_instances before) h i c.0 settled.0 c.1)) c.2
 
 -- all instances, each of which calls those before it
-pub instances_simulate : (m : Module) (items : Meanings) → meanings_over m items ≡ items → ItemsAreOwn items → (is : List Instantiated) (table : List CoreInstance) → instances_from m items [] is ≡ Some table
-    → InstancesSimulate m items table
-instances_simulate m items settled own is table e = instances_simulate_behind m items settled own is [] table (λ k i q. none_some i q) e
+pub instances_stand : (m : Module) (items : Meanings) → ItemsAreOwn items → (is : List Instantiated) (table : List CoreInstance) → CallsSettle m items is → instances_from m items [] is ≡ Some table
+    → AllStand m items table (functions_of_instances table)
+instances_stand m items own is table settled e = instances_simulate_behind m items own is settled [] table (λ k i q. none_some i q) e
+
+pub instances_simulate : (m : Module) (items : Meanings) → ItemsAreOwn items → (is : List Instantiated) (table : List CoreInstance) → CallsSettle m items is → instances_from m items [] is ≡ Some table → InstancesSimulate m items table
+instances_simulate m items own is table settled e k i q = (instances_stand m items own is table settled e k i q).0

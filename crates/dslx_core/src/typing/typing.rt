@@ -11,5 +11,5 @@ pub use cycles::{
 };
 pub use reached::{
     instances_reach_one_another, instances_reach_what_is_below, items_reach_what_they_mention,
-    what_is_checked_is_least, what_is_reached_is_mentioned,
+    what_is_checked_is_least, what_is_reached_is_mentioned, what_is_sized_reaches_what_it_calls,
 };

@@ -1,6 +1,7 @@
 -- What the block of `next` reaches with which nothing is wrong: effects at its top have types, so that the statements behind them do.
-use Rattle.std.proofs.Common.{◌≡◌, ◌++◌, ℕ, Bool, true, false, if◌then◌else◌, List, [], ◌∷◌, map, Option, Some, None, refl, sym, ap, subst, ◌∙◌}
+use Rattle.std.proofs.Common.{◌≡◌, ◌++◌, ◌+◌, ℕ, Bool, true, false, if◌then◌else◌, List, [], ◌∷◌, map, Option, Some, None, refl, sym, ap, subst, ◌∙◌}
 use Rattle.std.specs.List.{list_all}
+use Rattle.xb_span.specs.declared.fault.Fault.{Fault}
 use Rattle.xb_span.specs.declared.span.Span.{Span}
 use Rattle.dslx_tree.specs.declared.block.Block.{Block, out-Block}
 use Rattle.dslx_tree.specs.declared.block.Let.{Let, out-Let}
@@ -11,6 +12,7 @@ use Rattle.dslx_tree.specs.declared.expr.Arg.{Arg}
 use Rattle.dslx_tree.specs.declared.expr.Expr.{Expr, out-Expr}
 use Rattle.dslx_tree.specs.declared.ident.Ident.{Ident}
 use Rattle.dslx_tree.specs.declared.pattern.Pattern.{Pattern}
+use Rattle.dslx_tree.specs.declared.process.Direction.{Direction}
 use Rattle.dslx_tree.specs.declared.process.Direction.TheVariants.{In, Out}
 use Rattle.dslx_tree.specs.declared.type_expr.TypeExpr.{TypeExpr}
 use Rattle.dslx_tree.proofs.Lemmas.Folds.Folds.{Steps, fold_arg, fold_bind, fold_block, fold_pattern, fold_stmt, fold_type_expr, folds}
@@ -20,27 +22,28 @@ use Rattle.dslx_meaning.specs.Callees.{AllOnes, CallKind, Calls, CountsLeading, 
 use Rattle.dslx_meaning.specs.Environment.{Env}
 use Rattle.dslx_meaning.specs.Lists.{and_then}
 use Rattle.dslx_meaning.specs.Meaning.{TypeDen, denotation, written_type}
-use Rattle.dslx_meaning.specs.Types.{received}
+use Rattle.dslx_meaning.specs.Types.{received, unit_type}
 use Rattle.dslx_meaning.specs.declared.ty.DslxType.{DslxType}
 use Rattle.dslx_meaning.specs.declared.ty.DslxType as ty
 use Rattle.dslx_meaning.specs.Rules.AggregateRules.{wanted_faults, when_all}
-use Rattle.dslx_meaning.specs.Rules.CallRules.{ParametricArgument, call_typing, channel_end_in, channel_seen, given_parametric_args, held_typing, receiving, receiving_if, sending, sending_if, token_faults, token_typing, word_of, wrong_effect}
-use Rattle.dslx_meaning.specs.Rules.ControlRules.{annotation_faults, annotation_reached, behind, bound_type, expr_statement_typing, let_with, statements_typing, written_typing}
+use Rattle.dslx_meaning.specs.Rules.CallRules.{ChannelSeen, ParametricArgument, call_typing, channel_end_at, channel_end_in, channel_named, channel_seen, effect_with, given_parametric_args, held_typing, named_channel, receiving, receiving_if, sending, sending_if, site_faults, token_faults, token_typing, word_of, wrong_effect}
+use Rattle.dslx_meaning.specs.Rules.ControlRules.{annotation_faults, annotation_reached, annotation_size, behind, bound_type, expr_statement_typing, let_with, statements_typing, written_typing}
 use Rattle.dslx_meaning.specs.Rules.EffectNames.{is_effect}
 use Rattle.dslx_meaning.specs.Rules.NodeRules.{block_pair, expr_pair, node_typing}
 use Rattle.dslx_meaning.specs.Rules.OperatorRules.{is_bool, unless_type}
 use Rattle.dslx_meaning.specs.Rules.PatternRules.{pattern_alone}
-use Rattle.dslx_meaning.specs.Rules.TypeEnvs.{ChannelEnd, ExprPair, GlobalEnv, Instance, Judgement, TypeEnv, all_alone, alone, has_broken, name_of_expr, no_token, span_of, within}
+use Rattle.dslx_meaning.specs.Rules.TypeEnvs.{ChannelEnd, ExprPair, GlobalEnv, Instance, Judgement, TypeEnv, all_alone, alone, faults_of_all, has_broken, name_of_expr, no_token, one_and, plus_size, size_if_typed, size_of_all, span_of, types_of, unless_broken, within}
 use Rattle.dslx_meaning.specs.Rules.Typings.{PatternSeen, StatementSeen, StatementTyping, TypePair}
-use Rattle.dslx_core.proofs.Lemmas.Typing.Sound.{all_in, all_in_three, alone_has, bound_known, expression_gives, none_in, none_in_three, pattern_gives, type_has_den, wrongly_called}
+use Rattle.dslx_core.proofs.Lemmas.Typing.Sound.{all_in, all_in_three, alone_has, alone_well_typed, bound_known, expression_gives, none_in, none_in_three, pattern_gives, settled_well_typed, type_has_den, wrongly_called}
 use Rattle.dslx_core.specs.Typing.Sound.Sound.{TypeHasDenIf}
 use Rattle.dslx_core.specs.Typing.Typed.Complete.{IsWellTypedPart}
 use Rattle.dslx_core.specs.Typing.Typed.Declared.{IsDeclared}
+use Rattle.dslx_core.specs.Typing.Typed.Given.{IsSized}
 use Rattle.dslx_core.specs.Typing.Typed.WellTyped.{IsWellTypedEnv, types_at}
 use Rattle.dslx_total.proofs.OnExpressions.Inhabited.{some_value}
 use Rattle.dslx_total.proofs.OnExpressions.Joined.{seeing, seen}
 use Rattle.dslx_total.proofs.OnExpressions.OfControl.{typed_behind}
-use Rattle.dslx_total.proofs.OnExpressions.OfEffects.{channel_there, effect_well_typed, received_declared, token_declared, typing_at}
+use Rattle.dslx_total.proofs.OnExpressions.OfEffects.{ChannelThere, channel_there, effect_well_typed, received_declared, token_declared, typing_at}
 use Rattle.dslx_total.proofs.OnExpressions.Parts.{all_sound}
 use Rattle.dslx_total.proofs.OnOwn.Joined.{expression_passes, pattern_of_text_passes, written_type_passes}
 use Rattle.dslx_total.proofs.OnOwn.Passing.{CalleesPass, Passes, before_more, both_pass, join_three, unmarked}
@@ -48,6 +51,45 @@ use Rattle.dslx_total.proofs.OnOwn.Passing.{CalleesPass, Passes, before_more, bo
 -- the words of each member in scope have a type, one of the text
 abbrev pub MembersTyped : TypeEnv → Type 0
 MembersTyped context = (name : List ℕ) (o : ChannelEnd) → channel_end_in name context.members ≡ Some o → (t : DslxType) × (o.word ≡ Some t) × IsDeclared (types_at context) t
+
+-- ---- sizes
+
+plus_sized : (a b : Option ℕ) → IsSized a → IsSized b → IsSized (plus_size a b)
+plus_sized a b p q = (p.0 + q.0, λ i. plus_size (p.1 i) (q.1 i))
+
+one_sized : (a : Option ℕ) → IsSized a → IsSized (one_and a)
+one_sized a p = (1 + p.0, ap one_and p.1)
+
+-- what has a type has a size, where its parts do
+sized_if : (o : Option DslxType) (t : DslxType) (size : Option ℕ) → o ≡ Some t → IsSized size → IsSized (size_if_typed o size)
+sized_if o t size e p = (p.0, (λ i. size_if_typed (e i) size) ∙ p.1)
+
+effect_sized : (span : Span) (context : TypeEnv) (direction : Direction) (t : Judgement) (c : ChannelSeen) (js : List Judgement) (wrong : List Fault) (given : Option DslxType) (u : DslxType) → (effect_with span context direction t c js wrong given).ty ≡ Some u → IsSized t.size
+    → IsSized c.judgement.size → IsSized (size_of_all js) → IsSized (effect_with span context direction t c js wrong given).size
+effect_sized span context direction t c js wrong given u e pt pc pj =
+    let faults = (((t.faults ++ c.judgement.faults) ++ faults_of_all js) ++ wrong) ++ site_faults span context direction c in
+    let rest = plus_size c.judgement.size (size_of_all js) in
+    sized_if (unless_broken faults (and_then t.ty (λ u. when_all (types_of js) given))) u (one_and (plus_size t.size rest)) e
+    (one_sized (plus_size t.size rest) (plus_sized t.size rest pt (plus_sized c.judgement.size (size_of_all js) pc pj)))
+
+-- a channel that is there counts one
+channel_sized : (context : TypeEnv) (e : ExprPair) → ChannelThere context e (name_of_expr e) → IsSized (channel_seen context e).judgement.size
+channel_sized context e ch = (1, ap (λ o. (channel_named context e o).judgement.size) ch.is ∙ by_end (channel_end_at context ch.name))
+  where
+    by_end : (o : Option ChannelEnd) → (named_channel (span_of e) ch.name o).size ≡ Some 1
+    by_end None = refl
+    by_end (Some o) = refl
+
+-- a type that is written counts nothing
+written_sized : (context : TypeEnv) (env : Env) → IsWellTypedEnv context env → (span : Span) (written : Option TypePair) (f : Option TypeDen) → TypeHasDenIf written f → (t : Option DslxType) → annotation_faults span (written_typing context written) t ≡ []
+    → list_all context.known.is_sound (annotation_reached (written_typing context written)) ≡ true → IsSized (annotation_size (written_typing context written))
+written_sized context env h span None None k t e r = (0, refl)
+written_sized context env h span None (Some f) k t e r = absurd k
+written_sized context env h span (Some p) None k t e r = absurd k
+written_sized context env h span (Some p) (Some f) k t e r =
+    let j = p.1 context in
+    let w = k.known context env h (record { faults = (none_in j.faults (wanted_faults span j.ty t) e).0; reached = r }) in
+    (0, k.sized context w.0 w.1)
 
 -- ---- types at the top
 
@@ -58,19 +100,19 @@ wrong_any known span context given (t ∷ c ∷ es) well_typed = wrongly_called 
 
 module _ (context : TypeEnv) (env : Env) (h : IsWellTypedEnv context env) (members : MembersTyped context) where
   abbrev HasType : Judgement → Type 0
-  HasType j = (t : DslxType) × (j.ty ≡ Some t) × IsDeclared (types_at context) t
+  HasType j = (t : DslxType) × (j.ty ≡ Some t) × IsDeclared (types_at context) t × IsSized j.size
 
   abbrev WellTyped : Judgement → Type 0
   WellTyped j = IsWellTypedPart context.known j
 
-  token_there : (t : Expr) → (token_typing context (expr_pair t)).faults ≡ [] → list_all context.known.is_sound (token_typing context (expr_pair t)).reached ≡ true → (u : DslxType) × ((token_typing context (expr_pair t)).ty ≡ Some u)
+  token_there : (t : Expr) → (token_typing context (expr_pair t)).faults ≡ [] → list_all context.known.is_sound (token_typing context (expr_pair t)).reached ≡ true → (u : DslxType) × ((token_typing context (expr_pair t)).ty ≡ Some u) × IsSized (token_typing context (expr_pair t)).size
   token_there t f r =
       let a = within context (expr_pair t) in
       let g = (expression_gives t).gives context env h (record { faults = (none_in a.faults (token_faults (span_of (expr_pair t)) a.ty) f).0; reached = r }) in
-      (g.0, g.1)
+      (g.0, g.1, g.3)
 
-  value_there : (e : Expr) → (alone context (expr_pair e)).faults ≡ [] → list_all context.known.is_sound (alone context (expr_pair e)).reached ≡ true → (t : DslxType) × ((alone context (expr_pair e)).ty ≡ Some t)
-  value_there e f r = let g = alone_has context env (expr_pair e) (denotation e) (expression_gives e) h f r in (g.0, g.1)
+  value_there : (e : Expr) → (alone context (expr_pair e)).faults ≡ [] → list_all context.known.is_sound (alone context (expr_pair e)).reached ≡ true → (t : DslxType) × ((alone context (expr_pair e)).ty ≡ Some t) × IsSized (alone context (expr_pair e)).size
+  value_there e f r = let g = alone_has context env (expr_pair e) (denotation e) (expression_gives e) h f r in (g.0, g.1, g.3)
 
   receiving_typed : (span : Span) (t c : Expr) → WellTyped (receiving span context (expr_pair t ∷ expr_pair c ∷ [])) → HasType (receiving span context (expr_pair t ∷ expr_pair c ∷ []))
   receiving_typed span t c well_typed =
@@ -80,7 +122,12 @@ module _ (context : TypeEnv) (env : Env) (h : IsWellTypedEnv context env) (membe
       let ch = channel_there context (expr_pair c) (name_of_expr (expr_pair c)) span In q.site in
       let m = members ch.name ch.channel_end ch.found in
       let word : word_of channel ≡ Some m.0 = ch.word ∙ m.1 in
-      (received m.0, q.ty ∙ (λ i. and_then (tok.1 i) (λ u. and_then (word i) (λ w. Some (received w)))), received_declared (types_at context) m.0 m.2)
+      let own = q.ty ∙ (λ i. and_then (tok.1 i) (λ u. and_then (word i) (λ w. Some (received w)))) in (
+        received m.0,
+        own,
+        received_declared (types_at context) m.0 m.2,
+        effect_sized span context In (token_typing context (expr_pair t)) channel [] [] (and_then (word_of channel) (λ w. Some (received w))) (received m.0) own tok.2 (channel_sized context (expr_pair c) ch) (0, refl),
+      )
 
   sending_typed : (span : Span) (t c x : Expr) → WellTyped (sending span context (expr_pair t ∷ expr_pair c ∷ expr_pair x ∷ [])) → HasType (sending span context (expr_pair t ∷ expr_pair c ∷ expr_pair x ∷ []))
   sending_typed span t c x well_typed =
@@ -92,7 +139,13 @@ module _ (context : TypeEnv) (env : Env) (h : IsWellTypedEnv context env) (membe
       let m = members ch.name ch.channel_end ch.found in
       let word : word_of channel ≡ Some m.0 = ch.word ∙ m.1 in
       let b = value_there x (none_in value.faults [] q.others).0 (all_in context.known.is_sound value.reached [] q.others_reached).0 in
-      (ty.Token, q.ty ∙ (λ i. and_then (tok.1 i) (λ u. when_all (b.1 i ∷ []) (and_then (word i) (λ w. Some ty.Token)))), token_declared (types_at context))
+      let own = q.ty ∙ (λ i. and_then (tok.1 i) (λ u. when_all (b.1 i ∷ []) (and_then (word i) (λ w. Some ty.Token)))) in (
+        ty.Token,
+        own,
+        token_declared (types_at context),
+        effect_sized span context Out (token_typing context (expr_pair t)) channel (value ∷ []) (wanted_faults (span_of (expr_pair x)) (word_of channel) value.ty) (and_then (word_of channel) (λ w. Some ty.Token)) ty.Token own tok.2 (channel_sized context (expr_pair c) ch)
+            (plus_sized value.size (Some 0) b.2 (0, refl)),
+      )
 
   receiving_if_typed : (span : Span) (t c p x : Expr) → WellTyped (receiving_if span context (expr_pair t ∷ expr_pair c ∷ expr_pair p ∷ expr_pair x ∷ [])) → HasType (receiving_if span context (expr_pair t ∷ expr_pair c ∷ expr_pair p ∷ expr_pair x ∷ []))
   receiving_if_typed span t c p x well_typed =
@@ -110,7 +163,13 @@ module _ (context : TypeEnv) (env : Env) (h : IsWellTypedEnv context env) (membe
       let r = all_in context.known.is_sound condition.reached (value.reached ++ []) q.others_reached in
       let a = value_there p f.0 r.0 in
       let b = value_there x (none_in value.faults [] f.1).0 (all_in context.known.is_sound value.reached [] r.1).0 in
-      (received m.0, q.ty ∙ (λ i. and_then (tok.1 i) (λ u. when_all (a.1 i ∷ b.1 i ∷ []) (and_then (word i) (λ w. Some (received w))))), received_declared (types_at context) m.0 m.2)
+      let own = q.ty ∙ (λ i. and_then (tok.1 i) (λ u. when_all (a.1 i ∷ b.1 i ∷ []) (and_then (word i) (λ w. Some (received w))))) in (
+        received m.0,
+        own,
+        received_declared (types_at context) m.0 m.2,
+        effect_sized span context In (token_typing context (expr_pair t)) channel (condition ∷ value ∷ []) (bool ++ wrong) (and_then (word_of channel) (λ w. Some (received w))) (received m.0) own tok.2 (channel_sized context (expr_pair c) ch)
+            (plus_sized condition.size (plus_size value.size (Some 0)) a.2 (plus_sized value.size (Some 0) b.2 (0, refl))),
+      )
 
   sending_if_typed : (span : Span) (t c p x : Expr) → WellTyped (sending_if span context (expr_pair t ∷ expr_pair c ∷ expr_pair p ∷ expr_pair x ∷ [])) → HasType (sending_if span context (expr_pair t ∷ expr_pair c ∷ expr_pair p ∷ expr_pair x ∷ []))
   sending_if_typed span t c p x well_typed =
@@ -128,7 +187,13 @@ module _ (context : TypeEnv) (env : Env) (h : IsWellTypedEnv context env) (membe
       let r = all_in context.known.is_sound condition.reached (value.reached ++ []) q.others_reached in
       let a = value_there p f.0 r.0 in
       let b = value_there x (none_in value.faults [] f.1).0 (all_in context.known.is_sound value.reached [] r.1).0 in
-      (ty.Token, q.ty ∙ (λ i. and_then (tok.1 i) (λ u. when_all (a.1 i ∷ b.1 i ∷ []) (and_then (word i) (λ w. Some ty.Token)))), token_declared (types_at context))
+      let own = q.ty ∙ (λ i. and_then (tok.1 i) (λ u. when_all (a.1 i ∷ b.1 i ∷ []) (and_then (word i) (λ w. Some ty.Token)))) in (
+        ty.Token,
+        own,
+        token_declared (types_at context),
+        effect_sized span context Out (token_typing context (expr_pair t)) channel (condition ∷ value ∷ []) (bool ++ wrong) (and_then (word_of channel) (λ w. Some ty.Token)) ty.Token own tok.2 (channel_sized context (expr_pair c) ch)
+            (plus_sized condition.size (plus_size value.size (Some 0)) a.2 (plus_sized value.size (Some 0) b.2 (0, refl))),
+      )
 
   receives_at : (span : Span) (es : List Expr) → WellTyped (receiving span context (map expr_pair es)) → HasType (receiving span context (map expr_pair es))
   receives_at span [] well_typed = wrong_any context.known span context [] [] well_typed
@@ -163,7 +228,7 @@ module _ (context : TypeEnv) (env : Env) (h : IsWellTypedEnv context env) (membe
   alike_typed : (e : Expr) (j : Judgement) → (expr_pair e).1 false context ≡ j → WellTyped j → HasType j
   alike_typed e j q well_typed =
       let g = (expression_gives e).gives context env h (subst (IsWellTypedPart context.known) (sym q) well_typed) in
-      (g.0, ap (λ (k : Judgement). k.ty) (sym q) ∙ g.1, g.2.declared)
+      (g.0, ap (λ (k : Judgement). k.ty) (sym q) ∙ g.1, g.2.declared, (g.3.0, ap (λ (k : Judgement). k.size) (sym q) ∙ g.3.1))
 
   pub typed_at_top : (e : Expr) → WellTyped ((expr_pair e).1 true context) → HasType ((expr_pair e).1 true context)
   typed_at_top e well_typed = subst HasType (sym (typing_at e true context)) (by_node (node_of e) (typing_at e false context) (subst WellTyped (typing_at e true context) well_typed))
@@ -224,6 +289,7 @@ module _ (here test : Instance → Bool) where
     passes : (context : TypeEnv) (env : Env) → IsWellTypedEnv context env → CalleesPass here test context.known → Passes here test (s true context).faults (s true context).reached
     goes : (context : TypeEnv) (env : Env) → IsWellTypedEnv context env → MembersTyped context → (s true context).faults ≡ [] → list_all context.known.is_sound (s true context).reached ≡ true
         → (inner : Env) × IsWellTypedEnv (s true context).context inner
+    sized : (context : TypeEnv) (env : Env) → IsWellTypedEnv context env → MembersTyped context → (s true context).faults ≡ [] → list_all context.known.is_sound (s true context).reached ≡ true → IsSized (s true context).size
     known : (context : TypeEnv) → (s true context).context.known ≡ context.known
     members : (context : TypeEnv) → MembersTyped context → MembersTyped (s true context).context
 
@@ -264,6 +330,15 @@ module _ (here test : Instance → Bool) where
         let v = some_value (types_at context) h.known.parts a.0 a.2 in
         let inner = (pattern_gives text).behind false context a.0 [] context.locals env v.0 h v.1 (ap (λ (b : PatternSeen). has_broken b.faults) (sym same) ∙ ap has_broken q.2) in
         (inner.0, subst (λ (b : PatternSeen). IsWellTypedEnv (behind context b.locals (expr_pair e).0) inner.0) (sym same) (typed_behind context (pattern_alone false context (Some a.0) p).locals (expr_pair e).0 inner.0 inner.1));
+    sized = λ context env h members faults reached.
+        let value = (expr_pair e).1 true context in
+        let span = span_of (expr_pair e) in
+        let j = written_typing context written in
+        let bound = pattern_alone false context (bound_type j value.ty) (fold_pattern seen seeing text) in
+        let q = none_in_three value.faults (annotation_faults span j value.ty) bound.faults faults in
+        let r = all_in_three context.known.is_sound value.reached (annotation_reached j) bound.reached reached in
+        let a = typed_at_top context env h members e (record { faults = q.0; reached = r.0 }) in
+        plus_sized (annotation_size j) (plus_size value.size (Some bound.size)) (written_sized context env h span written f st value.ty q.1 r.1) (plus_sized value.size (Some bound.size) a.3 (bound.size, refl));
     known = λ context. refl;
     members = λ context typed. typed;
   }
@@ -271,6 +346,10 @@ module _ (here test : Instance → Bool) where
   bare_passes_so : (b : Bool) (span : Span) (j : Judgement) → Passes here test j.faults j.reached → Passes here test (if b then j else no_token span j).faults (if b then j else no_token span j).reached
   bare_passes_so true span j p = p
   bare_passes_so false span j p = unmarked here test span j p
+
+  bare_sized : (known : GlobalEnv) (b : Bool) (span : Span) (j : Judgement) → IsWellTypedPart known (if b then j else no_token span j) → (IsWellTypedPart known j → IsSized j.size) → IsSized (if b then j else no_token span j).size
+  bare_sized known true span j w f = f w
+  bare_sized known false span j w f = let a = alone_well_typed known span j w in let s = f a.well_typed in (s.0, a.same_size ∙ s.1)
 
   bare_passes : (e : Expr)
       → StepPasses (λ on_top context. record {
@@ -282,6 +361,8 @@ module _ (here test : Instance → Bool) where
   bare_passes e = record {
     passes = λ context env h callees. bare_passes_so (is_effect (expr_pair e).0) (span_of (expr_pair e)) ((expr_pair e).1 true context) (expression_passes here test e true context env h callees);
     goes = λ context env h members faults reached. (env, typed_behind context context.locals (expr_pair e).0 env h);
+    sized = λ context env h members faults reached.
+        bare_sized context.known (is_effect (expr_pair e).0) (span_of (expr_pair e)) ((expr_pair e).1 true context) (record { faults = faults; reached = reached }) (λ w. (typed_at_top context env h members e w).3);
     known = λ context. refl;
     members = λ context typed. typed;
   }
@@ -311,8 +392,8 @@ module _ (here test : Instance → Bool) where
           fold_out-Stmt c.stmt c.node c.shape c.type_node c.block c.bind c.arg c.arm c.expr c.field c.loop c.number c.pattern c.type_expr s.stmt s.node s.shape s.type_node s.block s.bind s.arg s.arm s.expr s.field s.loop s.number s.pattern s.type_expr x
 
       by_layer : (y : StmtLevel trees) → StepPasses (seeing.stmt (map_stmt trees seen (folds seen seeing) y)).1
-      by_layer (Stmt-F.Let l) = let s = let_at_top l in record { passes = s.passes; goes = s.goes; known = s.known; members = s.members }
-      by_layer (Stmt-F.Bare e) = let s = bare_passes e in record { passes = s.passes; goes = s.goes; known = s.known; members = s.members }
+      by_layer (Stmt-F.Let l) = let s = let_at_top l in record { passes = s.passes; goes = s.goes; sized = s.sized; known = s.known; members = s.members }
+      by_layer (Stmt-F.Bare e) = let s = bare_passes e in record { passes = s.passes; goes = s.goes; sized = s.sized; known = s.known; members = s.members }
 
   abbrev typing_statements : List Stmt → StatementTyping
   typing_statements ss = statements_typing (map (λ (s : Stmt × StatementTyping). s.1) (map (fold_stmt seen seeing) ss))
@@ -321,20 +402,22 @@ module _ (here test : Instance → Bool) where
     passes : list_all test (typing_statements ss true context).reached ≡ true
     inner : Env
     typed : IsWellTypedEnv (typing_statements ss true context).context inner
+    sized : IsSized (typing_statements ss true context).size
     callees : CalleesPass here test (typing_statements ss true context).context.known
 
   statements_pass : (ss : List Stmt) (context : TypeEnv) (env : Env) → IsWellTypedEnv context env → CalleesPass here test context.known → MembersTyped context → (typing_statements ss true context).faults ≡ []
       → list_all here (typing_statements ss true context).reached ≡ true → StatementsDone ss context
-  statements_pass [] context env h callees members f r = record { passes = refl; inner = env; typed = h; callees = callees }
+  statements_pass [] context env h callees members f r = record { passes = refl; inner = env; typed = h; sized = (0, refl); callees = callees }
   statements_pass (s ∷ ss) context env h callees members f r =
       let step = statement_passes s in
       let first = (fold_stmt seen seeing s).1 true context in
       let rest = typing_statements ss true first.context in
       let p = none_in first.faults rest.faults f in
       let q = all_in here first.reached rest.reached r in
-      let on = step.goes context env h members p.0 (all_sound here context.known.is_sound callees.sound first.reached q.0) in
+      let sound = all_sound here context.known.is_sound callees.sound first.reached q.0 in
+      let on = step.goes context env h members p.0 sound in
       let more = statements_pass ss first.context on.0 on.1 (subst (CalleesPass here test) (sym (step.known context)) callees) (step.members context members) p.1 q.1 in
-      record { passes = both_pass test first.reached rest.reached (step.passes context env h callees p.0 q.0) more.passes; inner = more.inner; typed = more.typed; callees = more.callees }
+      record { passes = both_pass test first.reached rest.reached (step.passes context env h callees p.0 q.0) more.passes; inner = more.inner; typed = more.typed; sized = plus_sized first.size rest.size (step.sized context env h members p.0 sound) more.sized; callees = more.callees }
 
   -- ---- the block
 
@@ -372,3 +455,46 @@ module _ (here test : Instance → Bool) where
           let q = all_in here walked.reached last.reached r in
           let done = statements_pass ss context env h callees members p.0 q.0 in
           both_pass test walked.reached last.reached done.passes (unmarked here test (span_of (expr_pair x)) (within walked.context (expr_pair x)) (expression_passes here test x false walked.context done.inner done.typed done.callees) p.1 q.1)
+
+  -- with which nothing is wrong has a size
+  pub next_block_sized : (b : Block) (context : TypeEnv) (env : Env) → IsWellTypedEnv context env → CalleesPass here test context.known → MembersTyped context → ((block_pair b).1 true context).faults ≡ [] → list_all here ((block_pair b).1 true context).reached ≡ true
+      → IsSized ((block_pair b).1 true context).size
+  next_block_sized b context env h callees members f r = subst (λ (j : Judgement). j.faults ≡ [] → list_all here j.reached ≡ true → IsSized j.size) (sym typing) (by_value (out-Block b).value) f r
+    where
+      out_block : (c : Carriers) (s : Steps c) (x : Block) → fold_block c s x ≡ s.block (map_block trees c (folds c s) (out-Block x))
+      out_block c s x =
+          fold_out-Block c.stmt c.node c.shape c.type_node c.block c.bind c.arg c.arm c.expr c.field c.loop c.number c.pattern c.type_expr s.stmt s.node s.shape s.type_node s.block s.bind s.arg s.arm s.expr s.field s.loop s.number s.pattern s.type_expr x
+
+      ss : List Stmt
+      ss = (out-Block b).statements
+
+      span : Span
+      span = (out-Block b).span
+
+      with_value : Option Expr → BlockLevel trees
+      with_value o = record { span = span; statements = ss; value = o }
+
+      judgement : Option Expr → Judgement
+      judgement o = (seeing.block (map_block trees seen (folds seen seeing) (with_value o))).1 true context
+
+      typing : (block_pair b).1 true context ≡ judgement (out-Block b).value
+      typing = λ i. (out_block seen seeing b i).1 true context
+
+      walked : StatementSeen
+      walked = typing_statements ss true context
+
+      by_value : (o : Option Expr) → (judgement o).faults ≡ [] → list_all here (judgement o).reached ≡ true → IsSized (judgement o).size
+      by_value None e r =
+          let size = one_and (plus_size walked.size (Some 0)) in
+          let s = settled_well_typed context.known span (Some unit_type) (walked.faults ++ []) (walked.reached ++ []) size (record { faults = e; reached = all_sound here context.known.is_sound callees.sound (walked.reached ++ []) r }) in
+          let done = statements_pass ss context env h callees members (none_in walked.faults [] s.faults).0 (all_in here walked.reached [] r).0 in
+          sized_if (unless_broken (walked.faults ++ []) (Some unit_type)) unit_type size s.ty (one_sized (plus_size walked.size (Some 0)) (plus_sized walked.size (Some 0) done.sized (0, refl)))
+      by_value (Some x) e r =
+          let last = alone walked.context (expr_pair x) in
+          let size = one_and (plus_size walked.size last.size) in
+          let s = settled_well_typed context.known span last.ty (walked.faults ++ last.faults) (walked.reached ++ last.reached) size (record { faults = e; reached = all_sound here context.known.is_sound callees.sound (walked.reached ++ last.reached) r }) in
+          let p = none_in walked.faults last.faults s.faults in
+          let q = all_in here walked.reached last.reached r in
+          let done = statements_pass ss context env h callees members p.0 q.0 in
+          let g = alone_has walked.context done.inner (expr_pair x) (denotation x) (expression_gives x) done.typed p.1 (all_sound here walked.context.known.is_sound done.callees.sound last.reached q.1) in
+          sized_if (unless_broken (walked.faults ++ last.faults) last.ty) g.0 size (s.ty ∙ g.1) (one_sized (plus_size walked.size last.size) (plus_sized walked.size last.size done.sized g.3))

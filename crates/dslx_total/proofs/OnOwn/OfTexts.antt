@@ -98,24 +98,24 @@ module _ (m : Module) (top : Option (List ℕ)) (s : IsAccepted m top) (loops : 
   is_checked i = is_reached i (all m top s)
 
   -- its parametric arguments are of their own types
-  abbrev test : Instance → Bool
+  abbrev pub test : Instance → Bool
   test i = are_own known.items.type_named i.parametric_args
 
   -- checked, and of no proc, and of at most this rank
   abbrev low : ℕ → Instance → Bool
   low k i = is_checked i && settles m k i.name
 
-  known_item : (name : List ℕ) → item_named name known.whole.items ≡ item_named name m.items
+  pub known_item : (name : List ℕ) → item_named name known.whole.items ≡ item_named name m.items
   known_item name = λ i. item_named name (whole_is m (2 * length m.items) i).items
 
-  function_alike : (f : Function) → item_named f.name.name m.items ≡ Some (d.Function f) → DeclaredAlike known (globals_over known) f.name.name
+  pub function_alike : (f : Function) → item_named f.name.name m.items ≡ Some (d.Function f) → DeclaredAlike known (globals_over known) f.name.name
   function_alike f named =
       let n = length m.items in
       let least : 2 * n ≤ 2 * n = omega arith in
       let more : 2 * n ≤ suc (2 * n) = omega arith in
       ((uses_settle m s.plain (2 * n) (suc (2 * n)) least more AsFunction f.name.name).function f (ap as_function (known_item f.name.name ∙ named))).declared
 
-  seen_there : (i : Instance) (f : Function) → item_named i.name m.items ≡ Some (d.Function f) → found_of_instance known i ≡ (function_seen known f i.parametric_args).found
+  pub seen_there : (i : Instance) (f : Function) → item_named i.name m.items ≡ Some (d.Function f) → found_of_instance known i ≡ (function_seen known f i.parametric_args).found
   seen_there i f named = ap (found_of_item known i.parametric_args) (known_item i.name ∙ named)
 
   -- functions of at most this rank reach instances that pass
@@ -151,13 +151,13 @@ module _ (m : Module) (top : Option (List ℕ)) (s : IsAccepted m top) (loops : 
       ∙ function_passes (low k) test known complete typed callees f i.parametric_args own
       (ap (λ (x : Found). x.faults) (sym same) ∙ instance_faults known i (all m top s) one (all_empty m top s).1) (ap (λ (x : Found). list_all (low k) x.reached) (sym same) ∙ below)
 
-  abbrev here : Instance → Bool
+  abbrev pub here : Instance → Bool
   here = low (most m top s)
 
-  callees : CalleesPass here test known
+  pub callees : CalleesPass here test known
   callees = let enough : most m top s ≤ length m.items = omega arith in callees_pass (most m top s) enough (functions_pass (most m top s) enough)
 
-  all_here : (is : List Instance) → AllNamed (Passing m top s) is → Listed m top s is → list_all here is ≡ true
+  pub all_here : (is : List Instance) → AllNamed (Passing m top s) is → Listed m top s is → list_all here is ≡ true
   all_here [] named h = refl
   all_here (i ∷ is) named h =
       let q = and_true (is_checked i) (list_all is_checked is) h in

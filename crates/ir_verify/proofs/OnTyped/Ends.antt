@@ -240,3 +240,45 @@ one_proc channels line_spans names i seen (x ∷ xs) site h fits (suc q) (suc r)
     let parts = parts_not (proc_checks channels (get_or line_spans i nowhere_proc) names seen x) (procs_checks channels line_spans (names ++ x.name ∷ []) (suc i) (seen_after 0 (at_start seen) x.nodes) xs) h in
     ap suc (one_proc channels line_spans (names ++ x.name ∷ []) (suc i) (seen_after 0 (at_start seen) x.nodes) xs site parts.1
     (after_ends (length channels) x.nodes 0 (at_start seen) (start_ends (length channels) seen fits)) q r a b e f j k g l allowed)
+
+-- ---- one site an end
+
+site_once : (channels : List Channel) (i : ℕ) (o : Op) (r : Role) (seen : Seen) (sites : List Site) (site : Site) → IsAllowed channels site → HasEnds (length channels) seen
+    → (HasSite (see_op o (see_role i r seen)) site.sends site.chan → (p : ℕ) → slice_get sites p ≡ Some site → ⊥) → ((j k : ℕ) → slice_get sites j ≡ Some site → slice_get sites k ≡ Some site → j ≡ k)
+    → (j k : ℕ) → slice_get (sites_by r sites) j ≡ Some site → slice_get (sites_by r sites) k ≡ Some site → j ≡ k
+site_once channels i o role.Pure seen sites site a h free once j k e f = once j k e f
+site_once channels i o (role.Receive q c) seen sites site a h free once zero zero e f = refl
+site_once channels i o (role.Receive q c) seen sites site a h free once zero (suc k) e f =
+    absurd (free (role_taken channels i o (role.Receive q c) seen (see_op o (see_role i (role.Receive q c) seen)) [] site a h (λ x. x) (λ p g. absurd (none_there site p g)) 0 e) k f)
+site_once channels i o (role.Receive q c) seen sites site a h free once (suc j) zero e f =
+    absurd (free (role_taken channels i o (role.Receive q c) seen (see_op o (see_role i (role.Receive q c) seen)) [] site a h (λ x. x) (λ p g. absurd (none_there site p g)) 0 f) j e)
+site_once channels i o (role.Receive q c) seen sites site a h free once (suc j) (suc k) e f = ap suc (once j k e f)
+site_once channels i o (role.Send q c) seen sites site a h free once zero zero e f = refl
+site_once channels i o (role.Send q c) seen sites site a h free once zero (suc k) e f =
+    absurd (free (role_taken channels i o (role.Send q c) seen (see_op o (see_role i (role.Send q c) seen)) [] site a h (λ x. x) (λ p g. absurd (none_there site p g)) 0 e) k f)
+site_once channels i o (role.Send q c) seen sites site a h free once (suc j) zero e f =
+    absurd (free (role_taken channels i o (role.Send q c) seen (see_op o (see_role i (role.Send q c) seen)) [] site a h (λ x. x) (λ p g. absurd (none_there site p g)) 0 f) j e)
+site_once channels i o (role.Send q c) seen sites site a h free once (suc j) (suc k) e f = ap suc (once j k e f)
+
+nodes_once : (channels : List Channel) (state : IrType) (spans : List Span) (nodes before : List Node) (i : ℕ) (seen : Seen) (site : Site) → IsTrue (none_broken (nodes_checks channels state spans before i seen nodes)) → IsAllowed channels site → HasEnds (length channels) seen
+    → (j k : ℕ) → slice_get (sites_of nodes) j ≡ Some site → slice_get (sites_of nodes) k ≡ Some site → j ≡ k
+nodes_once channels state spans [] before i seen site h a fits j k e f = absurd (none_there site j e)
+nodes_once channels state spans (n ∷ ns) before i seen site h a fits j k e f =
+    let parts = parts_not (node_checks channels state before (get_or spans i nowhere) i seen n) (nodes_checks channels state spans (before ++ n ∷ []) (suc i) (see i n seen) ns) h in
+    site_once channels i n.op (role_of n) seen (sites_of ns) site a fits (nodes_free channels state spans ns (before ++ n ∷ []) (suc i) (see i n seen) site parts.1)
+    (nodes_once channels state spans ns (before ++ n ∷ []) (suc i) (see i n seen) site parts.1 a (role_ends (length channels) i n.op (role_of n) seen fits)) j k e f
+
+pub procs_once : (channels : List Channel) (line_spans : List ProcSpans) (names : List (List ℕ)) (i : ℕ) (seen : Seen) (procs : List Proc) (site : Site) → IsTrue (none_broken (procs_checks channels line_spans names i seen procs)) → IsAllowed channels site → HasEnds (length channels) seen
+    → (q : ℕ) (proc : Proc) → slice_get procs q ≡ Some proc → (j k : ℕ) → slice_get (sites_of proc.nodes) j ≡ Some site → slice_get (sites_of proc.nodes) k ≡ Some site → j ≡ k
+procs_once channels line_spans names i seen [] site h a fits q proc e j k f g = absurd (none_there proc q e)
+procs_once channels line_spans names i seen (x ∷ xs) site h a fits zero proc e j k f g =
+    let parts = parts_not (proc_checks channels (get_or line_spans i nowhere_proc) names seen x) (procs_checks channels line_spans (names ++ x.name ∷ []) (suc i) (seen_after 0 (at_start seen) x.nodes) xs) h in
+    let place = get_or line_spans i nowhere_proc in
+    let head = parts_not (head_checks place.head names x) _ parts.0 in
+    let own = parts_not (nodes_checks channels x.state place.nodes [] 0 (at_start seen) x.nodes) _ head.1 in
+    let same : x ≡ proc = cc in
+    nodes_once channels x.state place.nodes x.nodes [] 0 (at_start seen) site own.0 a (start_ends (length channels) seen fits) j k (subst (λ y. slice_get (sites_of y.nodes) j ≡ Some site) (sym same) f)
+    (subst (λ y. slice_get (sites_of y.nodes) k ≡ Some site) (sym same) g)
+procs_once channels line_spans names i seen (x ∷ xs) site h a fits (suc q) proc e j k f g =
+    let parts = parts_not (proc_checks channels (get_or line_spans i nowhere_proc) names seen x) (procs_checks channels line_spans (names ++ x.name ∷ []) (suc i) (seen_after 0 (at_start seen) x.nodes) xs) h in
+    procs_once channels line_spans (names ++ x.name ∷ []) (suc i) (seen_after 0 (at_start seen) x.nodes) xs site parts.1 a (after_ends (length channels) x.nodes 0 (at_start seen) (start_ends (length channels) seen fits)) q proc e j k f g

@@ -40,7 +40,7 @@ use Rattle.ir_verify.proofs.Lemmas.Typed.Checked.{both_true, not_true, not_not_t
 use Rattle.ir_verify.proofs.Lemmas.Typed.Tests.{IsLimited, limited, limited_widths, has_some, widths_count}
 use Rattle.ir_verify.proofs.OnTyped.Operations.{constant_typed}
 use Rattle.ir_verify.proofs.OnTyped.Walks.{keeps_types}
-use Rattle.ir_verify.proofs.OnTyped.Ends.{HasEnds, IsAllowed, nodes_allowed, one_proc}
+use Rattle.ir_verify.proofs.OnTyped.Ends.{HasEnds, IsAllowed, nodes_allowed, one_proc, procs_once}
 
 -- ---- the parts of a package
 
@@ -337,3 +337,15 @@ is_net ir h = record {
   where
     sites_same : (a b : Site) → a.chan ≡ b.chan → a.sends ≡ b.sends → a ≡ b
     sites_same a b e f = λ i. record { chan = e i; sends = f i }
+
+-- and a site is the only one of its end
+pub only_site : (ir : Package) → IsVerified ir → (p q i j : ℕ) (site : Site) → IsSiteOf (network_of ir) p i site → IsSiteOf (network_of ir) q j site → (p ≡ q) × (i ≡ j)
+only_site ir h p q i j site is js =
+    let x = site_in ir h p i site is in
+    let y = site_in ir h q j site js in
+    let procs : p ≡ q = one_proc ir.channels [] [] 0 (nothing_seen ir.channels) ir.procs site (checked ir h).procs (no_ends ir.channels) p q x.proc y.proc x.there y.there i j x.place y.place x.allowed in
+    let there : slice_get ir.procs p ≡ Some y.proc = subst (λ k. slice_get ir.procs k ≡ Some y.proc) (sym procs) y.there in
+    let same : y.proc ≡ x.proc = let one = x.there in cc in (
+      procs,
+      procs_once ir.channels [] [] 0 (nothing_seen ir.channels) ir.procs site (checked ir h).procs x.allowed (no_ends ir.channels) p x.proc x.there i j x.place (subst (λ (u : Proc). slice_get (sites_of u.nodes) j ≡ Some site) same y.place),
+    )

@@ -4,7 +4,8 @@ ghost use Rattle.std.specs.Prelude.{◌≡◌, ℕ, slice_get, Some};
 ghost use Rattle.xb_bits.specs.Word.{Word};
 ghost use Rattle.xb_value.specs.declared.value.Value.{Value};
 ghost use Rattle.xb_value.specs.Typing.{IsOfType};
-ghost use Rattle.net_core.specs.WellFormed.{IsNet, AreBehaviorsOf, EachKeepsTypes};
+ghost use Rattle.net_core.specs.declared.net.Site.{Site};
+ghost use Rattle.net_core.specs.WellFormed.{IsNet, IsSiteOf, AreBehaviorsOf, EachKeepsTypes};
 ghost use Rattle.ir_tree.specs.declared.package.Package.{Package};
 ghost use Rattle.ir_tree.specs.declared.package.Proc.{Proc};
 ghost use Rattle.ir_tree.specs.Types.{ty_of};
@@ -30,4 +31,9 @@ pub fn procs_keep_types()
 pub fn procs_fit_their_network()
     ensures net { (ir : Package) → IsVerified ir → IsNet (network_of ir) }
     ensures procs { (ir : Package) → AreBehaviorsOf (network_of ir) (behaviors_of ir) }
+{}
+
+/// A site is the only one at its end of its channel.
+pub fn sites_are_alone_at_their_ends()
+    ensures { (ir : Package) → IsVerified ir → (p q i j : ℕ) (site : Site) → IsSiteOf (network_of ir) p i site → IsSiteOf (network_of ir) q j site → (p ≡ q) × (i ≡ j) }
 {}

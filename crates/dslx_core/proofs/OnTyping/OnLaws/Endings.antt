@@ -116,7 +116,7 @@ of_kinds_over m x = record {
   calls = λ name e ns vs. no_call x (item_named name m.items) e ns vs;
 }
 
-of_kinds : (m : Module) (n : ℕ) → OfKinds m (meanings_within m n)
+pub of_kinds : (m : Module) (n : ℕ) → OfKinds m (meanings_within m n)
 of_kinds m zero = record {
   types = λ name e. refl;
   structs = λ name e. refl;

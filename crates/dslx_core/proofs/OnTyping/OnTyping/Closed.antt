@@ -161,7 +161,7 @@ each_within : (m : Module) (k : ℕ) → ((name : List ℕ) → Ends m k name �
 each_within m k f [] h = refl
 each_within m k f (n ∷ ns) h = λ i. f n h.0 i && each_within m k f ns h.1 i
 
-ends_so : (m : Module) (k : ℕ) (name : List ℕ) → Ends m k name → ends_within m k name ≡ true
+pub ends_so : (m : Module) (k : ℕ) (name : List ℕ) → Ends m k name → ends_within m k name ≡ true
 ends_so m zero name h = absurd h
 ends_so m (suc k) name h = each_within m k (ends_so m k) (mentions_of m (item_named name m.items)) h
 

@@ -8,6 +8,7 @@ use Rattle.dslx_meaning.specs.declared.ty.DslxType.{DslxType}
 use Rattle.dslx_meaning.specs.Rules.ModuleRules.{globals_of}
 use Rattle.dslx_core.specs.Behaviors.WellTypedNexts.{EachNextIsWellTyped}
 use Rattle.dslx_core.specs.Typing.Activities.Members.{IsWellTypedNext}
+use Rattle.dslx_core.proofs.Lemmas.Networks.{design_ends}
 use Rattle.dslx_total.specs.Texts.WellTypedTexts.{EachProcIsWellTyped, IsWellTypedProc}
 use Rattle.dslx_total.proofs.texts.well_typed_texts_simulate.Goals as goal
 
@@ -30,7 +31,7 @@ returns c m top design well_typed made =
     let typed = c.all_items_are_known.ensures.typed m well_typed.plain well_typed.items in
     let same = c.global_env_is_sound.ensures.whole m well_typed.free well_typed.plain well_typed.items in
     let own = c.items_are_own.ensures m well_typed.free well_typed.plain well_typed.items in
-    c.lower_preserves_designs.ensures m top design well_typed.free own made (record {
+    c.lower_preserves_designs.ensures m top design own made (design_ends m top design well_typed.free (c.recursion_ends.ensures.settled m well_typed.free) made) (record {
       known = globals_of m;
       nexts = λ p e. nexts_well_typed m same
           (λ a k t is. c.well_typed_procs_have_well_typed_nexts.ensures (globals_of m) complete typed a.proc a.parametric_args k.own k.found k.words t is) _ (well_typed.procs p e);
