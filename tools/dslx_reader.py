@@ -1046,7 +1046,7 @@ class Judge:
         return scope, state
 
     def ungiven(self, p, t, written, operands, judge, scope):
-        """A parametric that isn't given: what the operands infer, or else its default."""
+        """A parametric that isn't given: what the operands infer, or else its default. In a type past the limit on widths it has no value."""
         inferred = set()
         for w, found in zip(written, operands):
             if found is None and might_give(w, p.name.name):
@@ -1056,7 +1056,9 @@ class Judge:
             return None, "rule 10"
         if inferred and t is not None:
             number = inferred.pop()
-            return (Value(t, number), "complete") if is_bits(t) and t.holds(number) else (None, "rule 10")
+            if not is_bits(t) or not t.holds(number):
+                return None, "rule 10"
+            return (Value(t, number), "complete") if t.too_wide is None else (None, "missing")
         value = None if inferred else judge.constant(p.default, scope)
         is_fine = value is not None and t is not None and judge.wanted(p.default, value.type, t)
         return (value, "complete") if is_fine else (None, "missing")
@@ -1569,14 +1571,14 @@ class Checker:
         return EnumOf(base, members) if base is not None and not judge.unit.rules() else None
 
     def judge_member(self, judge, e, base):
-        """The number of a member, or None: one without a type takes the enum's (rule 6), any other has it (rule 9)."""
+        """The number of a member, or None: one without a type takes the enum's (rule 6), any other has it (rule 9). No number past the limit on widths is one."""
         value = judge.constant(e, Scope({}), untyped=True)
         if value is None or base is None:
             return None
         if isinstance(value, int):
             if not is_bits(base):
                 return None
-            return value if judge.number_of_type(e, base, value) is not None else None
+            return value if judge.number_of_type(e, base, value) is not None and base.too_wide is None else None
         return value.data if judge.wanted(e, value.type, base) and is_bits(base) else None
 
     # -- instances

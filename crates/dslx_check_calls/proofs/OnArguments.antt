@@ -14,15 +14,16 @@ use Rattle.xb_span.specs.declared.span.Span.{Span}
 use Rattle.dslx_tree.specs.declared.expr.Expr.{Expr, out-Expr}
 use Rattle.dslx_tree.specs.declared.item.Parametric.{Parametric}
 use Rattle.dslx_meaning.specs.Inference.{Inferred as InferredNumber}
-use Rattle.dslx_meaning.specs.Lists.{all_some, is_in}
+use Rattle.dslx_meaning.specs.Lists.{all_some, is_in, where_true}
 use Rattle.dslx_meaning.specs.Operators.{number_value}
-use Rattle.dslx_meaning.specs.Types.{same_type}
+use Rattle.dslx_meaning.specs.Types.{bits_in, same_type}
 use Rattle.dslx_meaning.specs.Values.{type_of_value}
 use Rattle.dslx_meaning.specs.declared.ty.DslxType.{DslxType}
 use Rattle.dslx_meaning.specs.declared.value.DslxValue.{DslxValue}
-use Rattle.dslx_meaning.specs.Rules.AggregateRules.{wanted_faults}
+use Rattle.dslx_meaning.specs.Rules.AggregateRules.{is_narrow, untyped_value, wanted_faults}
 use Rattle.dslx_meaning.specs.Rules.CallRules.{Before, JudgedThere, ParametricArgument as GivenSeen, ParametricArgsSeen, Resolved as ResolvedSeen, Number, Unknown, Wrong, and_parametric, and_there, default_value, in_type, is_wrong_parametric, known_before, not_given, nothing_there, number_before, of_type, parametric_args_for, parametric_args_seen, parametric_type, resolved_value, type_there, value_before, without_default}
 use Rattle.dslx_meaning.specs.Rules.ConstantRules.{untyped_typing}
+use Rattle.dslx_meaning.specs.Rules.PatternRules.{is_there}
 use Rattle.dslx_meaning.specs.Rules.TypeRules.{unless_unit}
 use Rattle.dslx_meaning.specs.Rules.TypeEnvs.{DefaultSeen, GlobalEnv, Judgement}
 use Rattle.dslx_check_rules.specs.declared.faults.Faults.{Faults}
@@ -40,6 +41,7 @@ use Rattle.dslx_check_facts.specs.Typings.{IsDefault, IsTypingThere}
 use Rattle.dslx_check_facts.specs.Walks.{WalkShown, WalkGrows, HasTables, instance_at, instances_at}
 use Rattle.dslx_check_facts.proofs.Lemmas.Judged.{known_rows_stay, row_stays_if}
 use Rattle.dslx_check_facts.proofs.Lemmas.Walks.{grows_refl, grows_trans, nothing_missing, tables_trans}
+use Rattle.dslx_check_nodes.specs.Nodes.Aggregates.{is_in_range}
 use Rattle.dslx_check_nodes.proofs.Lemmas.Lists.{pairs_long, some_before, some_next}
 use Rattle.dslx_check_control.specs.declared.calls.ParametricArgument.{ParametricArgument}
 use Rattle.dslx_check_control.specs.Calls.{AreGiven, IsGiven}
@@ -181,18 +183,21 @@ is_unknown t v other = subst (IsResolved code.Unknown) (sym (value_of_type t v �
 pub is_nothing : (t : Option DslxType) (o : Option DslxValue) → o ≡ None → IsResolved code.Unknown (resolved_value (of_type t o))
 is_nothing t o e = subst (IsResolved code.Unknown) (sym (ap (λ v. resolved_value (of_type t v)) e ∙ nothing_of_type t)) tt
 
-abbrev number_or_wrong : Option DslxValue → ResolvedSeen
-number_or_wrong None = Wrong
-number_or_wrong (Some v) = Number v
+-- what lies in the type's range has a value, but where the type is wider than values are
+abbrev in_range : Option DslxValue → Option DslxValue → ResolvedSeen
+in_range number value = if is_there number then resolved_value value else Wrong
 
-in_type_is : (t : DslxType) (n : ℕ) → in_type (Some t) n ≡ number_or_wrong (number_value t (record { is_negative = false; value = n }))
-in_type_is t n = refl
+of_value : (narrow : Bool) (number : Option DslxValue) (v : DslxValue) → Some v ≡ where_true narrow number → IsResolved (code.Number v) (in_range number (where_true narrow number))
+of_value true (Some u) v e = subst (λ o. IsResolved (code.Number v) (resolved_value o)) e refl
+of_value true None v e = absurd (none-some v (sym e))
+of_value false number v e = absurd (none-some v (sym e))
 
-pub lies_in : (t : DslxType) (n : ℕ) (v : DslxValue) → Some v ≡ number_value t (record { is_negative = false; value = n }) → IsResolved (code.Number v) (in_type (Some t) n)
-lies_in t n v e = subst (λ o. IsResolved (code.Number v) (number_or_wrong o)) e refl
+pub lies_in : (t : DslxType) (n : ℕ) (v : DslxValue) → Some v ≡ untyped_value t (record { is_negative = false; value = n }) → IsResolved (code.Number v) (in_type (Some t) n)
+lies_in t n v e = of_value (is_narrow (bits_in t)) (number_value t (record { is_negative = false; value = n })) v e
 
-pub lies_outside : (t : DslxType) (n : ℕ) → None ≡ number_value t (record { is_negative = false; value = n }) → IsResolved code.Wrong (in_type (Some t) n)
-lies_outside t n e = subst (λ o. IsResolved code.Wrong (number_or_wrong o)) e tt
+pub without_value : (r : Resolved) (t : DslxType) (n : ℕ) → None ≡ untyped_value t (record { is_negative = false; value = n })
+    → IsResolved r (if is_in_range t (record { is_negative = false; value = n }) then Unknown else Wrong) → IsResolved r (in_type (Some t) n)
+without_value r t n e found = subst (λ o. IsResolved r (in_range (number_value t (record { is_negative = false; value = n })) o)) e found
 
 pub nowhere : (t : Option DslxType) (n : ℕ) → t ≡ None → IsResolved code.Unknown (in_type t n)
 nowhere t n e = subst (λ o. IsResolved code.Unknown (in_type o n)) (sym e) tt

@@ -8,6 +8,7 @@ ghost use Rattle.dslx_meaning.specs.Lists.{all_some};
 ghost use Rattle.dslx_meaning.specs.Rules.CallRules as the;
 ghost use Rattle.dslx_meaning.specs.declared.value.DslxValue.{DslxValue as Value};
 ghost use Rattle.dslx_meaning.specs.Values.{type_of_value};
+ghost use Rattle.dslx_check_nodes.specs.Nodes.Aggregates as half;
 ghost use Rattle.dslx_check_rules.specs.Interned.{AreDistinct, HasRow, HasRowIf, ItemNames, type_at, type_if};
 ghost use Rattle.dslx_check_rules.specs.declared.table.row.TypeRow.{TypeRow as Row};
 ghost use Rattle.dslx_check_facts.specs.Walks.{shown};
@@ -18,8 +19,9 @@ ghost use Rattle.dslx_check_uses.specs.Inferring.{name_lent, number_of};
 use base::texts::Name;
 use dslx_check_control::calls::ParametricArgument;
 use dslx_check_facts::{
-    DefaultThere, Facts, Prefixes, TypingThere, Walk, default_seen, number_in, parameter_seen,
+    DefaultThere, Facts, Prefixes, TypingThere, Walk, default_seen, parameter_seen, untyped_value,
 };
+use dslx_check_nodes::aggregates::is_in_range;
 use dslx_check_nodes::written::unless_unit;
 use dslx_check_nodes::{both, either};
 use dslx_check_rules::{Faults, TypeId, TypeTable, wanted_faults};
@@ -243,10 +245,22 @@ fn number_of_type(types: &TypeTable, ty: TypeId, number: u128) -> Result<Resolve
         is_negative: false,
         value: number,
     };
-    let found = number_in(types, ty, literal)?;
+    let found = untyped_value(types, ty, literal)?;
     match found {
         Some(value) => Ok(Resolved::Number(value)),
-        None => Ok(Resolved::Wrong),
+        None => Ok(without_value(types, ty, literal)),
+    }
+}
+
+/// What a number without a value comes to: its type may be wider than values are.
+fn without_value(types: &TypeTable, ty: TypeId, number: UntypedLiteral) -> Resolved
+    ensures { (names : ItemNames) (later : List Row) → IsPrefix types.now later → HasRow types.now ty
+        → seen_by.IsResolved result (if half.is_in_range (type_at names later ty) number then the.Unknown else the.Wrong) }
+{
+    if is_in_range(types, ty, number) {
+        Resolved::Unknown
+    } else {
+        Resolved::Wrong
     }
 }
 

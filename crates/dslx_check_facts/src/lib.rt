@@ -32,7 +32,7 @@ pub use lookups::{
     named_type, reached_since,
 };
 pub use names::{member_typing, name_typing};
-pub use numbers::number_in;
+pub use numbers::{number_in, untyped_value};
 pub use prefixes::{Prefix, Prefixes};
 pub use type_env::{MemberEnd, ParametricArg, TypeEnv};
 pub use walk::{Need, Walk};

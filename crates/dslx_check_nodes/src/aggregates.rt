@@ -79,7 +79,7 @@ pub fn number_typing(types: &TypeTable, span: Span, number: UntypedLiteral, ty: 
 }
 
 /// A number that doesn't lie in its type.
-pub(crate) fn range_faults(
+pub fn range_faults(
     types: &TypeTable,
     span: Span,
     ty: Option<TypeId>,
@@ -97,7 +97,7 @@ pub(crate) fn range_faults(
 }
 
 /// Whether a type is bits and a number lies in their range.
-fn is_in_range(types: &TypeTable, ty: TypeId, number: UntypedLiteral) -> bool
+pub fn is_in_range(types: &TypeTable, ty: TypeId, number: UntypedLiteral) -> bool
     ensures { (names : ItemNames) (later : List Row) → IsPrefix types.now later → HasRow types.now ty → result ≡ half.is_in_range (type_at names later ty) number }
 {
     match bits_in(types, ty) {

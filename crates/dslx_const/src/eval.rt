@@ -1,9 +1,11 @@
-ghost use Rattle.std.specs.Prelude.{◌≡◌, IfOk};
+ghost use Rattle.std.specs.Prelude.{◌≡◌, IfOk, length};
 ghost use Rattle.dslx_meaning.specs.Items.{meanings_of};
+ghost use Rattle.dslx_names.specs.ConstMachine.Kept.{kept_within};
+ghost use Rattle.dslx_const_tasks.specs.Values.{values_kept};
 ghost use Rattle.dslx_meaning.specs.Meaning.{bound_of, denotation, size_of, value_of, value_of_block, written_type};
 
-use crate::found::{count_found, found_by, type_found, value_found};
-use dslx_const_tasks::{Task, TypeTask, ValueTask};
+use crate::found::{count_found, found_by, machine_over, run, type_found, value_found};
+use dslx_const_tasks::{Kept, Task, TypeTask, ValueTask};
 use dslx_meaning::{DslxType, DslxValue};
 use dslx_names::Scope;
 use dslx_tree::{Block, Expr, Module, TypeExpr};
@@ -25,6 +27,23 @@ pub fn const_eval<'a>(
     ensures { IfOk result (λ v. v ≡ value_of expr.now (record { items = meanings_of text.now; bound = bound.entry })) }
 {
     let found = found_by(alloc, text, bound, Task::Eval(expr))?;
+    Ok(value_found(found))
+}
+
+/// The same where the values of constants and members are kept: each use of one is a look-up and a copy of its value. What is kept may be less
+/// than what the text's items denote, and then the expression has the value that it denotes by these.
+pub fn const_eval_over<'a>(
+    alloc: Global,
+    text: &'a Module,
+    kept: &'a Kept<'a>,
+    bound: Scope<'a>,
+    expr: &'a Expr,
+) -> Result<Option<DslxValue>, AllocError>
+    ensures { IfOk result (λ v. v ≡ value_of expr.now (record { items = kept_within (values_kept kept.now) text.now (length text.now.items); bound = bound.entry })) }
+{
+    let mut machine = machine_over(alloc, text, kept, bound);
+    machine.first(Task::Eval(expr))?;
+    let found = run(alloc, machine)?;
     Ok(value_found(found))
 }
 

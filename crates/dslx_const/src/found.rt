@@ -1,15 +1,16 @@
 //! What the machine finds.
 
-ghost use Rattle.std.specs.Prelude.{◌≡◌, [], None, length, IfOk};
+ghost use Rattle.std.specs.Prelude.{◌≡◌, [], None, Some, length, IfOk};
 ghost use Rattle.dslx_names.specs.ConstMachine.States.{count_in_finding, type_in, value_in};
 ghost use Rattle.dslx_names.specs.ConstMachine.Steps.{begins};
 ghost use Rattle.dslx_names.specs.ConstMachine.Tasks.{ValueFound};
 ghost use Rattle.dslx_names.proofs.Lemmas.ConstMachine.{comes_to};
 ghost use Rattle.dslx_const_tasks.specs.Plain.{plain_found, plain_task, shown};
+ghost use Rattle.dslx_const_tasks.specs.Values.{values_kept};
 
 use crate::step::step;
 use base::stacks::Stack;
-use dslx_const_tasks::{Found, Machine, Task};
+use dslx_const_tasks::{Found, Kept, Machine, Task};
 use dslx_meaning::{DslxType, DslxValue};
 use dslx_names::Scope;
 use dslx_tree::Module;
@@ -17,10 +18,30 @@ use std::alloc::{AllocError, Global};
 
 /// The machine in a text where these names are bound, with nothing to do.
 pub fn machine_in<'a>(alloc: Global, text: &'a Module, bound: Scope<'a>) -> Machine<'a>
-    ensures { shown result ≡ record { text = text.now; todo = []; found = ValueFound None; bound = bound.entry; left = length text.now.items } }
+    ensures { shown result ≡ record { text = text.now; kept = None; todo = []; found = ValueFound None; bound = bound.entry; left = length text.now.items } }
 {
     Machine {
         text,
+        kept: None,
+        tasks: Stack::new(alloc),
+        found: Found::Value(None),
+        bound,
+        left: text.items.len() as u64,
+    }
+}
+
+/// The same, where the values of constants and members are kept.
+pub fn machine_over<'a>(
+    alloc: Global,
+    text: &'a Module,
+    kept: &'a Kept<'a>,
+    bound: Scope<'a>,
+) -> Machine<'a>
+    ensures { shown result ≡ record { text = text.now; kept = Some (values_kept kept.now); todo = []; found = ValueFound None; bound = bound.entry; left = length text.now.items } }
+{
+    Machine {
+        text,
+        kept: Some(kept),
         tasks: Stack::new(alloc),
         found: Found::Value(None),
         bound,

@@ -10,5 +10,5 @@ pub mod lists;
 mod node;
 mod step;
 
-pub use eval::{block_eval, bound_eval, const_eval, size_eval, type_eval};
-pub use found::{machine_in, run, type_found, value_found};
+pub use eval::{block_eval, bound_eval, const_eval, const_eval_over, size_eval, type_eval};
+pub use found::{machine_in, machine_over, run, type_found, value_found};

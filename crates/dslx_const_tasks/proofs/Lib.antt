@@ -2,3 +2,5 @@
 mod Counts
 -- items
 pub mod OnItems
+-- members of enums
+pub mod OnMembers

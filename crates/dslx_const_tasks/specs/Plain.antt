@@ -1,7 +1,9 @@
 -- What is to be done and where the machine stands, without references.
 use Rattle.std.specs.Prelude.{List, map}
+use Rattle.std.specs.Option.{option_map}
 use Rattle.dslx_tree.specs.declared.pattern.Pattern.{Pattern}
 use Rattle.dslx_values.specs.Inference.Inferences.{inferred}
+use Rattle.dslx_const_tasks.specs.Values.{values_kept}
 use Rattle.dslx_const_tasks.specs.declared.machine.Machine.{Machine}
 use Rattle.dslx_const_tasks.specs.declared.task.Found.{Found}
 use Rattle.dslx_const_tasks.specs.declared.task.Found.TheVariants as found
@@ -133,4 +135,4 @@ plain_task (task.Type t) = plain_type_task t
 plain_task (task.Call t) = plain_call_task t
 
 abbrev pub shown : Machine → m.ConstState
-shown x = record { text = x.text.now; todo = map plain_task x.tasks; found = plain_found x.found; bound = x.bound; left = x.left }
+shown x = record { text = x.text.now; kept = option_map (λ k. values_kept k.now) x.kept; todo = map plain_task x.tasks; found = plain_found x.found; bound = x.bound; left = x.left }

@@ -3,11 +3,13 @@
 
 mod count;
 pub mod items;
+mod kept;
 mod machine;
 mod order;
 mod task;
 
 pub use count::{one_left, one_less};
+pub use kept::{Kept, copy_if};
 pub use machine::Machine;
 pub use order::in_order;
 pub use task::{

@@ -3,6 +3,7 @@ ghost use Rattle.dslx_names.specs.ConstMachine.States.{value_in, type_in, count_
 ghost use Rattle.dslx_names.specs.ConstMachine.Tasks.{ValueDen, FindsType, CountsBound, CountsSize};
 ghost use Rattle.dslx_const_tasks.specs.Plain.{shown, plain_task, plain_value_task, plain_list_task, plain_choice_task, plain_type_task, plain_call_task};
 
+use crate::kept::Kept;
 use crate::task::{CallTask, ChoiceTask, Found, ListTask, Task, TypeTask, ValueTask};
 use base::stacks::Stack;
 use dslx_meaning::{DslxType, DslxValue};
@@ -14,6 +15,8 @@ use std::alloc::{AllocError, Global};
 #[derive(Drop)]
 pub struct Machine<'a> {
     pub text: &'a Module,
+    /// The values of constants and members, where they are kept: then their texts aren't evaluated.
+    pub kept: Option<&'a Kept<'a>>,
     /// What is still to be done, the next task on the top.
     pub tasks: Stack<Task<'a>>,
     pub found: Found,

@@ -8,3 +8,5 @@ mod OnDesign
 mod OnRuns
 -- orders of instances
 mod OnOrders
+-- functions that are checked
+mod OnChecked

@@ -101,29 +101,31 @@ pub assembled : (m : Module) (limit : ℕ) (top : Proc) (wanted : List Instantia
     → lower_outers (meanings_of m) top ≡ Some outer → AddsAll m limit wanted (Some made) → IsTable m (meanings_of m) made.functions
     → is_last_of top.name.name (top_parametric_args (meanings_of m) top) made.procs.items ≡ true
     → design ≡ record { name = top.name.name; outer = outer; functions = map core_function made.functions; procs = instances_alone made.procs.items }
-    → (name : Option (List ℕ)) → top_proc m name ≡ Some top → IsDesignFrom m name design
+    → (name : Option (List ℕ)) → top_proc m name ≡ Some top → (from : IsDesignFrom m name design) × (from.functions ≡ made.functions)
 assembled m limit top wanted made outer design item outers adds table last is name is_top =
     let come = made_come m limit wanted made adds in
     let l = last_is top.name.name (top_parametric_args (meanings_of m) top) made.procs.items last in
-    let index : length (instances_alone made.procs.items) - 1 ≡ length made.procs.items - 1 = ap (λ n. n - 1) (length-map made.procs.items (λ (i : ProcInstance). i.instance)) in
-    record {
-      proc = top;
-      is_top = is_top;
-      is_item = item;
-      outer = outer;
-      functions = made.functions;
-      procs = made.procs.items;
-      last = l.last;
-      named_functions = table.0;
-      named_procs = come.named;
-      outers = outers;
-      each_function = table.1;
-      each_proc = come.all made.functions (record { more = []; is = sym (append-nil made.functions) });
-      is_last = ap (slice_get made.procs.items) index ∙ l.there;
-      of_name = l.name_is;
-      of_parametric_args = l.args_are;
-      design_is = is;
-    }
+    let index : length (instances_alone made.procs.items) - 1 ≡ length made.procs.items - 1 = ap (λ n. n - 1) (length-map made.procs.items (λ (i : ProcInstance). i.instance)) in (
+      record {
+        proc = top;
+        is_top = is_top;
+        is_item = item;
+        outer = outer;
+        functions = made.functions;
+        procs = made.procs.items;
+        last = l.last;
+        named_functions = table.0;
+        named_procs = come.named;
+        outers = outers;
+        each_function = table.1;
+        each_proc = come.all made.functions (record { more = []; is = sym (append-nil made.functions) });
+        is_last = ap (slice_get made.procs.items) index ∙ l.there;
+        of_name = l.name_is;
+        of_parametric_args = l.args_are;
+        design_is = is;
+      },
+      refl,
+    )
 
 -- ---- the loop
 

@@ -41,13 +41,13 @@ use Rattle.dslx_elab.proofs.OnDesign.{same_args}
 
 -- ---- names of what is made
 
-abbrev name_of : ProcInstance → Instantiated
+abbrev pub name_of : ProcInstance → Instantiated
 name_of c = record { name = c.name; parametric_args = c.parametric_args }
 
-abbrev names_of : List ProcInstance → List Instantiated
+abbrev pub names_of : List ProcInstance → List Instantiated
 names_of is = map name_of is
 
-args_equal : (vs : List DslxValue) → pairwise equal_value vs vs ≡ true
+pub args_equal : (vs : List DslxValue) → pairwise equal_value vs vs ≡ true
 args_equal [] = refl
 args_equal (v ∷ vs) = λ i. value_equals_itself v i && args_equal vs i
 
@@ -93,15 +93,15 @@ each_spawn P Q f [] h = tt
 each_spawn P Q f (config_statement.Channel c ∷ ms) h = each_spawn P Q f ms h
 each_spawn P Q f (config_statement.Spawn s ∷ ms) h = (f s h.0, each_spawn P Q f ms h.1)
 
-abbrev NextsLower : Module → Option (List ℕ) → List CoreInstance → Type 0
+abbrev pub NextsLower : Module → Option (List ℕ) → List CoreInstance → Type 0
 NextsLower m top table = (p : Proc) (parametric_args : List DslxValue) → IsReachedProc m top p parametric_args → NextLowers m table p parametric_args
 
-abbrev ConfigsLower : Module → Option (List ℕ) → Type 0
+abbrev pub ConfigsLower : Module → Option (List ℕ) → Type 0
 ConfigsLower m top = (p : Proc) (parametric_args : List DslxValue) → IsReachedProc m top p parametric_args → ConfigLowers m (meanings_of m) top p parametric_args
 
 module _ (m : Module) (top : Option (List ℕ)) (limit : ℕ) (table : List CoreInstance) (is_table : IsTable m (meanings_of m) table) (few : length table ≤ limit) (nexts : NextsLower m top table) (configs : ConfigsLower m top) where
   -- behind these it becomes something
-  can_make : (procs : List ProcInstance) (i : Instantiated) → CanBeNext m top (names_of procs) i → (c : ProcInstance) × (next_proc m (meanings_of m) table procs i ≡ Some c)
+  pub can_make : (procs : List ProcInstance) (i : Instantiated) → CanBeNext m top (names_of procs) i → (c : ProcInstance) × (next_proc m (meanings_of m) table procs i ≡ Some c)
   can_make procs i k = (as_instance whole, ap (λ o. and_then o (λ q. and_then (lower_proc m (meanings_of m) table procs q i.parametric_args) (λ l. Some (as_instance l)))) of_text ∙ ap (λ o. and_then o (λ l. Some (as_instance l))) made)
     where
       as_instance : Instance → ProcInstance
@@ -145,7 +145,7 @@ module _ (m : Module) (top : Option (List ℕ)) (limit : ℕ) (table : List Core
       let l = from_then (lower_proc m (meanings_of m) functions procs p.0 i.parametric_args) (λ l. Some (record { name = i.name; parametric_args = i.parametric_args; instance = l })) c p.2 in
       ap name_of (sym (same_some (record { name = i.name; parametric_args = i.parametric_args; instance = l.0 }) c l.2))
 
-  one_named : (before : MadeInstances) (i : Instantiated) (o : Option MadeInstances) → AddsProc m limit before i o → CanBeNext m top (names_of before.procs.items) i
+  pub one_named : (before : MadeInstances) (i : Instantiated) (o : Option MadeInstances) → AddsProc m limit before i o → CanBeNext m top (names_of before.procs.items) i
       → (mid : MadeInstances) × (o ≡ Some mid) × (names_of mid.procs.items ≡ names_of before.procs.items ++ i ∷ [])
   one_named before i _ (IsAmong k e) can = absurd (can.new (named_found before.procs.items 0 k i e))
   one_named before i _ (IsAdded None e missing) can = not_missing before.procs.items i can missing

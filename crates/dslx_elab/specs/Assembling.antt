@@ -45,7 +45,7 @@ is_last_of name parametric_args is = is_of_found name parametric_args (slice_get
 -- or the last is not the top's
 pub data Assembles (m : Module) (top : Proc) (limit : ℕ) (wanted : List Instantiated) : Option Design → Type 0 where
   IsAssembled : (design : Design) (made : MadeInstances) → AddsAll m limit wanted (Some made) → design.procs ≡ instances_alone made.procs.items
-      → ((name : Option (List ℕ)) → top_proc m name ≡ Some top → IsDesignFrom m name design) → Assembles m top limit wanted (Some design)
+      → ((name : Option (List ℕ)) → top_proc m name ≡ Some top → (from : IsDesignFrom m name design) × (from.functions ≡ made.functions)) → Assembles m top limit wanted (Some design)
   LacksOuters : lower_outers (meanings_of m) top ≡ None → Assembles m top limit wanted None
   LacksInstance : AddsAll m limit wanted None → Assembles m top limit wanted None
   LacksTop : (made : MadeInstances) → AddsAll m limit wanted (Some made) → is_last_of top.name.name (top_parametric_args (meanings_of m) top) made.procs.items ≡ false → Assembles m top limit wanted None

@@ -11,15 +11,12 @@ use Rattle.dslx_meaning.specs.Network.{behaviors_of, network_of}
 use Rattle.dslx_meaning.specs.Rules.NetworkLimits.{refusal_of}
 use Rattle.dslx_core.specs.CoreOf.{EachBehavesAlike}
 use Rattle.dslx_core.specs.Networks.Assembly.{IsDesignFrom}
-use Rattle.dslx_core.specs.Typing.Depends.Settled.{BindsNoConstant}
-use Rattle.dslx_core.specs.Typing.Laws.Recursion.{HasNoCycle}
 use Rattle.dslx_core.specs.declared.design.Design.{Design}
+use Rattle.dslx_total.specs.Instances.Checked.{AreOfChecked}
 use Rattle.dslx_total.specs.Nets.Slashes.{EndsHaveNoSlash}
 
--- a text that isn't refused; no item of it reaches itself, and no function binds the name of a constant, also where nothing calls or spawns it
+-- a text that isn't refused
 pub record IsAcceptedText (m : Module) (top : Option (List ℕ)) : Type 0 where
-  pub free : HasNoCycle m
-  pub plain : BindsNoConstant m
   pub slashes : EndsHaveNoSlash m top
   pub none : refusal_of m top ≡ None
 
@@ -35,9 +32,10 @@ pub record RunsText (m : Module) (top : Option (List ℕ)) (net : Net) (behavior
       → outcome_of (run_of (network_of m top) (behaviors_of m top) inputs n depths) (final_cut (run_of (network_of m top) (behaviors_of m top) inputs n depths))
       ≡ outcome_of (run_of net behaviors inputs n depths) (final_cut (run_of net behaviors inputs n depths))
 
--- a checked text that is made of the instances of an accepted text
+-- a checked text that is made of the instances of an accepted text, those of functions that are checked
 pub record IsOfAccepted (design : Design) : Type 0 where
   pub text : Module
   pub top : Option (List ℕ)
   pub accepted : IsAcceptedText text top
   pub made : IsDesignFrom text top design
+  pub checked : AreOfChecked text top made.named_functions

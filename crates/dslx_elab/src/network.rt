@@ -5,6 +5,7 @@ ghost use Rattle.xb_span.specs.declared.read_error.ReadError.TheVariants.{OutOfM
 ghost use Rattle.dslx_tree.specs.declared.item.Module.{Module};
 ghost use Rattle.dslx_core.specs.Networks.Assembly.{IsDesignFrom};
 ghost use Rattle.dslx_network.specs.DslxBodies.{behavior_of};
+ghost use Rattle.dslx_total.specs.Instances.Checked.{AreOfChecked};
 ghost use Rattle.dslx_elab.specs.Runs.{IsAcceptedText, IsOfAccepted, RunsText};
 
 use dslx_core::Design;
@@ -26,7 +27,7 @@ pub struct Network<'a> {
 /// It gives up only for want of memory. It takes time as the network is large.
 pub fn network_there<'a>(alloc: Global, design: &'a Design) -> Result<Network<'a>, ReadError>
     requires { IsOfAccepted design.now }
-    ensures runs { IfOk result (λ made. (m : Module) (top : Option (List ℕ)) → IsAcceptedText m top → IsDesignFrom m top design.now → RunsText m top made.net (map behavior_of made.bodies.items)) }
+    ensures runs { IfOk result (λ made. (m : Module) (top : Option (List ℕ)) → IsAcceptedText m top → (from : IsDesignFrom m top design.now) → AreOfChecked m top from.named_functions → RunsText m top made.net (map behavior_of made.bodies.items)) }
     ensures refused { IfErr result (λ e. e ≡ OutOfMemory) }
 {
     crate::runs::accepted_texts_run();

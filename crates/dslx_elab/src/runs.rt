@@ -8,16 +8,17 @@ ghost use Rattle.dslx_core.specs.declared.design.Design.{Design};
 ghost use Rattle.dslx_network.specs.Bodies.{ReceivesWords};
 ghost use Rattle.dslx_network.specs.Limits.{network_limit};
 ghost use Rattle.dslx_network.specs.Linked.{IsLinked};
+ghost use Rattle.dslx_total.specs.Instances.Checked.{AreOfChecked};
 ghost use Rattle.dslx_elab.specs.Runs.{IsAcceptedText, RunsText};
 
-/// The network and the behaviors of a checked text that is made of an accepted text's instances run the text. All its ends are there, all
-/// that it receives fits a word, and the network passes no limit.
+/// The network and the behaviors of a checked text that is made of an accepted text's instances, those of functions that are checked, run
+/// the text. All its ends are there, all that it receives fits a word, and the network passes no limit.
 pub fn accepted_texts_run()
-    ensures runs { (m : Module) (top : Option (List ℕ)) (design : Design) → IsAcceptedText m top → IsDesignFrom m top design → RunsText m top (core_network design) (core_behaviors design) }
+    ensures runs { (m : Module) (top : Option (List ℕ)) (design : Design) → IsAcceptedText m top → (made : IsDesignFrom m top design) → AreOfChecked m top made.named_functions → RunsText m top (core_network design) (core_behaviors design) }
     ensures linked { (m : Module) (top : Option (List ℕ)) (design : Design) → IsDesignFrom m top design → IsLinked design }
     ensures words { (m : Module) (top : Option (List ℕ)) (design : Design) → IsDesignFrom m top design → ReceivesWords design }
-    ensures limits { (m : Module) (top : Option (List ℕ)) (design : Design) → IsAcceptedText m top → IsDesignFrom m top design → network_limit (core_network design) ≡ None }
-    ensures few { (m : Module) (top : Option (List ℕ)) (design : Design) → IsAcceptedText m top → IsDesignFrom m top design → length (core_family design).procs ≤ 256 }
+    ensures limits { (m : Module) (top : Option (List ℕ)) (design : Design) → IsAcceptedText m top → (made : IsDesignFrom m top design) → AreOfChecked m top made.named_functions → network_limit (core_network design) ≡ None }
+    ensures few { (m : Module) (top : Option (List ℕ)) (design : Design) → IsAcceptedText m top → (made : IsDesignFrom m top design) → AreOfChecked m top made.named_functions → length (core_family design).procs ≤ 256 }
 {
     dslx_network::linked::made_designs_are_linked();
     dslx_network::linked::made_designs_receive_words();

@@ -1,5 +1,7 @@
 -- what steps do where an item is used
 pub mod Items
+-- values of items that are kept
+pub mod Kept
 -- what stands at the top of a tree
 pub mod Layers
 -- what steps do with several expressions

@@ -1,5 +1,7 @@
 -- what is reached where no proc is mentioned
 pub mod Reached
+-- global environments that have what is checked
+pub mod Knows
 -- what instances of procs break and reach, by parts
 pub mod Acts
 -- parametrics of procs

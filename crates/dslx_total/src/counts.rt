@@ -5,27 +5,22 @@ ghost use Rattle.dslx_tree.specs.declared.process.Proc.{Proc};
 ghost use Rattle.dslx_meaning.specs.Network.{network_of, top_proc};
 ghost use Rattle.dslx_meaning.specs.Rules.ModuleRules.{faults_of};
 ghost use Rattle.dslx_meaning.specs.Rules.NetworkLimits.{network_count, refusal_of};
-ghost use Rattle.dslx_core.specs.Typing.Laws.Recursion.{HasNoCycle};
-ghost use Rattle.dslx_core.specs.Typing.Depends.Settled.{BindsNoConstant};
 
 /// Where no part of a text breaks a rule or passes a limit, the procs and channels that are counted, instance by instance, are as
-/// many as its network has. No item may reach itself and no function bind the name of a constant, also where nothing calls
-/// or spawns it.
+/// many as its network has.
 pub fn networks_have_what_is_counted()
-    ensures { (m : Module) (top : Option (List ℕ)) → HasNoCycle m → BindsNoConstant m → faults_of m top ≡ [] → (p : Proc) → top_proc m top ≡ Some p
+    ensures { (m : Module) (top : Option (List ℕ)) → faults_of m top ≡ [] → (p : Proc) → top_proc m top ≡ Some p
         → network_count m top p ≡ record { procs = length (network_of m top).procs; channels = length (network_of m top).chans } }
 {
     dslx_core::typing::typing::instances_reach_one_another();
-    dslx_core::typing::typing::looping_items_mean_nothing();
-    dslx_core::typing::known::all_items_are_known();
-    dslx_core::typing::accepted::items_of_accepted_texts_are_well_typed();
+    crate::checked::what_is_checked_is_known();
 }
 
 /// So a text that isn't refused has no fault, and a network of at most 256 procs and 1,024 channels.
 pub fn networks_keep_the_limits()
     ensures accepted { (m : Module) (top : Option (List ℕ)) → refusal_of m top ≡ None → faults_of m top ≡ [] }
-    ensures procs { (m : Module) (top : Option (List ℕ)) → HasNoCycle m → BindsNoConstant m → refusal_of m top ≡ None → length (network_of m top).procs ≤ 256 }
-    ensures channels { (m : Module) (top : Option (List ℕ)) → HasNoCycle m → BindsNoConstant m → refusal_of m top ≡ None → length (network_of m top).chans ≤ 1024 }
+    ensures procs { (m : Module) (top : Option (List ℕ)) → refusal_of m top ≡ None → length (network_of m top).procs ≤ 256 }
+    ensures channels { (m : Module) (top : Option (List ℕ)) → refusal_of m top ≡ None → length (network_of m top).chans ≤ 1024 }
 {
     networks_have_what_is_counted();
 }

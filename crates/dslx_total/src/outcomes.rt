@@ -11,8 +11,7 @@ ghost use Rattle.dslx_core.specs.CoreOf.{CoreOf};
 ghost use Rattle.dslx_core.specs.Designs.{core_behaviors, core_network};
 ghost use Rattle.dslx_core.specs.declared.design.Design.{Design};
 ghost use Rattle.dslx_core.specs.Networks.Assembly.{IsDesignFrom};
-ghost use Rattle.dslx_core.specs.Typing.Laws.Recursion.{HasNoCycle};
-ghost use Rattle.dslx_core.specs.Typing.Depends.Settled.{BindsNoConstant};
+ghost use Rattle.dslx_total.specs.Instances.Checked.{AreOfChecked};
 
 /// Where a checked text simulates a text, and its network is one whose procs keep types, runs of the two have the same outcome,
 /// for all inputs, numbers of activations and depths: each channel carries the same words, and each proc ends in the same state
@@ -27,12 +26,11 @@ pub fn made_designs_have_the_same_outcomes()
     ir_eval::outcomes::same_behavior_has_the_same_outcomes();
 }
 
-/// So a text that isn't refused and a checked text that is made of its instances have the same outcome, for all inputs that fit the
-/// network's channels, numbers of activations and depths. No item may reach itself and no function bind the name of a constant, also
-/// where nothing calls or spawns it.
+/// So a text that isn't refused and a checked text that is made of its checked instances have the same outcome, for all inputs that
+/// fit the network's channels, numbers of activations and depths.
 pub fn accepted_designs_have_the_same_outcomes()
     ensures { (m : Module) (top : Option (List ℕ)) (design : Design) (inputs : List (List Word)) (n : ℕ) (depths : List ℕ) →
-        HasNoCycle m → BindsNoConstant m → refusal_of m top ≡ None → IsDesignFrom m top design → IsInputs (network_of m top) inputs → n < 2 ^ 32
+        refusal_of m top ≡ None → (made : IsDesignFrom m top design) → AreOfChecked m top made.named_functions → IsInputs (network_of m top) inputs → n < 2 ^ 32
         → outcome_of (run_of (network_of m top) (behaviors_of m top) inputs n depths) (final_cut (run_of (network_of m top) (behaviors_of m top) inputs n depths))
         ≡ outcome_of (run_of (core_network design) (core_behaviors design) inputs n depths) (final_cut (run_of (core_network design) (core_behaviors design) inputs n depths)) }
 {

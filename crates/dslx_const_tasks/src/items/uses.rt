@@ -3,12 +3,12 @@
 ghost use Rattle.std.specs.Prelude.{◌≡◌, [], Some, OnOk, IfOk};
 ghost use Rattle.dslx_meaning.specs.Environment.{given_in};
 ghost use Rattle.dslx_meaning.specs.Items.{item_named, is_constant_item, member_named};
-ghost use Rattle.dslx_names.specs.ConstMachine.States.{at_item};
-ghost use Rattle.dslx_names.specs.ConstMachine.Items.{is_constant_within, uses_constant, uses_name, uses_member, at_member, uses_struct, uses_type, at_type_item, at_struct};
+ghost use Rattle.dslx_names.specs.ConstMachine.States.{at_item, one_less};
+ghost use Rattle.dslx_names.specs.ConstMachine.Items.{constant_from, is_constant_within, member_from, uses_constant, uses_name, uses_member, at_member, uses_struct, uses_type, at_type_item, at_struct};
 ghost use Rattle.dslx_const_tasks.specs.Plain.{shown};
 
 use crate::items::ty::gather_field_types;
-use crate::{CallTask, Machine, Task, TypeTask, one_left};
+use crate::{CallTask, Machine, Task, TypeTask, copy_if, one_left};
 use base::texts::Name;
 use dslx_meaning::DslxValue;
 use dslx_names::{Scope, find_constant, find_enum, find_item, find_member, find_struct};
@@ -44,6 +44,23 @@ pub fn use_constant<'a>(
     name: &Name,
 ) -> Result<(), AllocError>
     ensures { OnOk result (shown machine.new ≡ uses_constant name.now (shown machine.old)) }
+{
+    match machine.kept {
+        Some(kept) => {
+            let value = copy_if(alloc, kept.constant(name))?;
+            machine.give(value)
+        }
+        None => evaluate_constant(machine, alloc, name),
+    }
+}
+
+/// Goes to the text of a constant.
+fn evaluate_constant<'a>(
+    machine: &mut Machine<'a>,
+    alloc: Global,
+    name: &Name,
+) -> Result<(), AllocError>
+    ensures { OnOk result (shown machine.new ≡ constant_from (one_less (shown machine.old).left) name.now (shown machine.old)) }
 {
     match one_left(machine.left) {
         Some(left) => match find_constant(machine.text.items.as_slice(), name) {
@@ -89,6 +106,24 @@ pub fn use_member<'a>(
     member: &Name,
 ) -> Result<(), AllocError>
     ensures { OnOk result (shown machine.new ≡ uses_member name.now member.now (shown machine.old)) }
+{
+    match machine.kept {
+        Some(kept) => {
+            let value = copy_if(alloc, kept.member(name, member))?;
+            machine.give(value)
+        }
+        None => evaluate_member(machine, alloc, name, member),
+    }
+}
+
+/// Goes to the text of an enum's member.
+fn evaluate_member<'a>(
+    machine: &mut Machine<'a>,
+    alloc: Global,
+    name: &Name,
+    member: &Name,
+) -> Result<(), AllocError>
+    ensures { OnOk result (shown machine.new ≡ member_from (one_less (shown machine.old).left) name.now member.now (shown machine.old)) }
 {
     match one_left(machine.left) {
         Some(left) => match find_enum(machine.text.items.as_slice(), name) {

@@ -8,12 +8,16 @@ pub mod Scopes
 pub mod OfCalls
 -- patterns, matches, statements and loops
 pub mod OfControl
+-- what parts mention behind other names
+pub mod Rebound
 -- the induction on trees
 pub mod Joined
 -- what mentions no proc
 pub mod NoProcs
 -- parametrics by the values before them
 pub mod Parametrics
+-- functions that bind the name of a constant
+pub mod Bindings
 -- items, by chains of items
 pub mod OfItems
 -- chains that are long enough

@@ -6,15 +6,14 @@ ghost use Rattle.dslx_meaning.specs.Rules.ModuleRules.{globals_of};
 ghost use Rattle.dslx_core.specs.Typing.Laws.Agreement.{ItemMeansOne};
 ghost use Rattle.dslx_core.specs.Typing.Laws.Recursion.{HasNoCycle};
 ghost use Rattle.dslx_core.specs.Typing.TypingRelations.Closed.{ends_within};
-ghost use Rattle.dslx_core.specs.Typing.Depends.Settled.{BindsNoConstant};
 ghost use Rattle.dslx_core.specs.Typing.GlobalEnv.WellTypedParts.{EachItemWellTyped};
 
-/// Where no function binds the name of a constant, and each constant, alias, struct and enum is well-typed, the global environment has
+/// Where each constant, alias, struct and enum is well-typed, the global environment has
 /// of each item from which chains of mentions end what it denotes. Where no item reaches itself, it has that of all: what holds of it
 /// holds of the text's denotation.
 pub fn global_env_is_sound()
-    ensures item { (m : Module) → BindsNoConstant m → EachItemWellTyped m → (name : List ℕ) → ends_within m (length m.items) name ≡ true → ItemMeansOne (globals_of m).items (meanings_of m) name }
-    ensures whole { (m : Module) → HasNoCycle m → BindsNoConstant m → EachItemWellTyped m → (globals_of m).items ≡ meanings_of m }
+    ensures item { (m : Module) → EachItemWellTyped m → (name : List ℕ) → ends_within m (length m.items) name ≡ true → ItemMeansOne (globals_of m).items (meanings_of m) name }
+    ensures whole { (m : Module) → HasNoCycle m → EachItemWellTyped m → (globals_of m).items ≡ meanings_of m }
 {
     crate::typing::known::all_items_are_known();
     crate::typing::complete::constants_are_known();

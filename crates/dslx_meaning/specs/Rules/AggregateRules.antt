@@ -1,14 +1,15 @@
 -- The rules of numbers, arrays, tuples and structs, and of what takes them apart.
-use Rattle.std.specs.Prelude.{ℕ, zero, suc, List, [], ◌∷◌, ◌++◌, ◌==◌, ◌||◌, nat_lt, map, Bool, true, false, not, Option, Some, None, length, slice_get, if◌then◌else◌}
+use Rattle.std.specs.Prelude.{ℕ, zero, suc, List, [], ◌∷◌, ◌++◌, ◌==◌, ◌||◌, nat_lt, nat_le, map, Bool, true, false, not, Option, Some, None, length, slice_get, if◌then◌else◌}
 use Rattle.std.specs.List.{list_any}
 use Rattle.xb_span.specs.declared.span.Span.{Span}
 use Rattle.xb_span.specs.declared.fault.Fault.{Fault}
 use Rattle.dslx_tree.specs.declared.ident.Ident.{Ident}
 use Rattle.dslx_tree.specs.declared.item.Struct.{Struct}
-use Rattle.dslx_meaning.specs.Lists.{all_some, and_then, beside, is_in}
-use Rattle.dslx_meaning.specs.Types.{same_type}
+use Rattle.dslx_meaning.specs.Lists.{all_some, and_then, beside, is_in, where_true}
+use Rattle.dslx_meaning.specs.Types.{bits_in, same_type}
 use Rattle.dslx_meaning.specs.Operators.{number_value}
 use Rattle.dslx_meaning.specs.Items.{item_named, name_of_field, as_struct}
+use Rattle.dslx_meaning.specs.declared.ty.BitKind.{BitKind}
 use Rattle.dslx_meaning.specs.declared.ty.DslxType.{DslxType, out-DslxType}
 use Rattle.dslx_meaning.specs.declared.ty.DslxType as ty
 use Rattle.dslx_meaning.specs.declared.ty.DslxType.TheOpen.{DslxType-F}
@@ -19,6 +20,7 @@ use Rattle.dslx_meaning.specs.Rules.NameRules.{name_typing}
 use Rattle.dslx_meaning.specs.Rules.PatternRules.{is_there}
 use Rattle.dslx_meaning.specs.Rules.OperatorRules.{unless_type}
 use Rattle.dslx_meaning.specs.Rules.TypeRules.{unit_faults}
+use Rattle.dslx_meaning.specs.declared.value.DslxValue.{DslxValue}
 use Rattle.dslx_meaning.specs.declared.value.UntypedLiteral.{UntypedLiteral}
 use Rattle.dslx_meaning.specs.Rules.RuleNumbers as rule
 
@@ -28,6 +30,16 @@ use Rattle.dslx_meaning.specs.Rules.RuleNumbers as rule
 abbrev pub range_faults : Span → Option DslxType → UntypedLiteral → List Fault
 range_faults span None number = []
 range_faults span (Some t) number = breaks_if (not (is_there (number_value t number))) rule.NUMBER_FITS_TYPE span
+
+-- bits within the limit on their width
+abbrev pub is_narrow : Option BitKind → Bool
+is_narrow None = false
+is_narrow (Some kind) = nat_le kind.width 128
+
+-- the value of a number whose type stands elsewhere, if it lies in its range. Where that type is past the limit on widths no number
+-- has one, as no constant of such a type has
+abbrev pub untyped_value : DslxType → UntypedLiteral → Option DslxValue
+untyped_value t number = where_true (is_narrow (bits_in t)) (number_value t number)
 
 -- rule 7: an untyped literal without an expected type may stand in few positions, which type it themselves
 abbrev pub number_typing : Span → Option Judgement → UntypedLiteral → Judgement

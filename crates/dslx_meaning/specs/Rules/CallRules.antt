@@ -26,9 +26,10 @@ use Rattle.dslx_meaning.specs.declared.value.DslxValue.{DslxValue}
 use Rattle.dslx_meaning.specs.Rules.TypeEnvs.{GlobalEnv, Signature, Instance, ChannelEnd, TypeEnv, Judgement, ExprPair, breaks, breaks_if, settled, has_broken, span_of, name_of_expr, within, alone, all_alone, faults_of_all, reached_of_all, size_of_all, types_of, plus_size, one_and, typed_in}
 use Rattle.dslx_meaning.specs.Rules.Typings.{ArgPair}
 use Rattle.dslx_meaning.specs.Rules.ConstantRules.{ConstantSeen, constant_of, is_unsigned}
+use Rattle.dslx_meaning.specs.Rules.PatternRules.{is_there}
 use Rattle.dslx_meaning.specs.Rules.TypeRules.{unless_unit}
 use Rattle.dslx_meaning.specs.Rules.OperatorRules.{unless_type, is_bits, is_bool}
-use Rattle.dslx_meaning.specs.Rules.AggregateRules.{wanted_faults, is_array, array_in, element_type, when_all}
+use Rattle.dslx_meaning.specs.Rules.AggregateRules.{wanted_faults, is_array, array_in, element_type, untyped_value, when_all}
 use Rattle.dslx_meaning.specs.Rules.RuleNumbers as rule
 
 -- ---- parametrics
@@ -97,11 +98,7 @@ resolved_value (Some v) = Number v
 -- a number that is inferred lies in the parametric's type
 abbrev pub in_type : Option DslxType → ℕ → Resolved
 in_type None n = Unknown
-in_type (Some t) n = or_wrong (number_value t (record { is_negative = false; value = n }))
-  where
-    or_wrong : Option DslxValue → Resolved
-    or_wrong None = Wrong
-    or_wrong (Some v) = Number v
+in_type (Some t) n = if is_there (number_value t (record { is_negative = false; value = n })) then resolved_value (untyped_value t (record { is_negative = false; value = n })) else Wrong
 
 abbrev pub of_type : Option DslxType → Option DslxValue → Option DslxValue
 of_type t v = with_both t v (λ t v. if same_type t (type_of_value v) then Some v else None)

@@ -15,7 +15,6 @@ use Rattle.dslx_tree.specs.declared.item.Member.{Member}
 use Rattle.dslx_meaning.specs.Lists.{all_some, and_then, where_true}
 use Rattle.dslx_meaning.specs.Types.{bits_in, unit_type}
 use Rattle.dslx_meaning.specs.Values.{same_value}
-use Rattle.dslx_meaning.specs.Operators.{number_value}
 use Rattle.dslx_meaning.specs.Environment.{Given}
 use Rattle.dslx_meaning.specs.Items.{parametric_args_bound, with_number, enum_member, name_of_field}
 use Rattle.dslx_meaning.specs.declared.ty.DslxType.{DslxType}
@@ -27,7 +26,7 @@ use Rattle.dslx_meaning.specs.Rules.NameRules.{listed_name, local_name}
 use Rattle.dslx_meaning.specs.Rules.PatternRules.{is_there}
 use Rattle.dslx_meaning.specs.Rules.TypeRules.{inner_type}
 use Rattle.dslx_meaning.specs.Rules.OperatorRules.{unless_type, is_bits}
-use Rattle.dslx_meaning.specs.Rules.AggregateRules.{wanted_faults, range_faults}
+use Rattle.dslx_meaning.specs.Rules.AggregateRules.{wanted_faults, range_faults, untyped_value}
 use Rattle.dslx_meaning.specs.Rules.NodeRules.{expr_pair, block_pair, type_pair}
 use Rattle.dslx_meaning.specs.declared.value.UntypedLiteral.{UntypedLiteral}
 use Rattle.dslx_meaning.specs.Rules.RuleNumbers as rule
@@ -200,7 +199,7 @@ member_constant context base m = by_untyped (untyped_of pair)
 
     number_in_base : Option DslxType → UntypedLiteral → Option DslxValue
     number_in_base None number = None
-    number_in_base (Some t) number = number_value t number
+    number_in_base (Some t) number = untyped_value t number
 
     of_base : ConstantSeen → List Fault → ConstantFound
     of_base c wrong = record {

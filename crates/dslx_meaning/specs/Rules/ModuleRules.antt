@@ -266,13 +266,17 @@ instances_faults known is = flat_map (λ i. (found_of_instance known i).faults) 
 
 -- all that the items break and pass
 abbrev pub items_faults : Module → Option (List ℕ) → List Fault
-items_faults m top =
-    let instances = instances_of m top in
-    instance_limit instances ++ (outside_instances m top).faults ++ instances_faults (globals_of m) instances
+items_faults m top = (outside_instances m top).faults ++ instances_faults (globals_of m) (instances_of m top)
 
--- all rules that the parts of a module break, and all limits that they pass. Items of one name are told apart
+-- the first ones alone, if there are any
+abbrev pub or_else_all : List Fault → List Fault → List Fault
+or_else_all [] faults = faults
+or_else_all (f ∷ fs) faults = f ∷ fs
+
+-- all rules that the parts of a module break, and all limits that they pass. Items of one name are told apart. Where there are too many
+-- instances that alone is named
 abbrev pub faults_of : Module → Option (List ℕ) → List Fault
-faults_of m top = item_names [] m.items ++ items_faults (told_apart m) top
+faults_of m top = or_else_all (instance_limit (instances_of (told_apart m) top)) (item_names [] m.items ++ items_faults (told_apart m) top)
 
 -- the fault that is named, if there is one
 abbrev pub first_fault : Module → Option (List ℕ) → Option Fault

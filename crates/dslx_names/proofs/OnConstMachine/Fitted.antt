@@ -12,7 +12,6 @@ use Rattle.dslx_tree.specs.declared.expr.For.{For, out-For}
 use Rattle.dslx_tree.specs.declared.item.Module.{Module}
 use Rattle.dslx_tree.specs.declared.pattern.Pattern.{Pattern}
 use Rattle.dslx_meaning.specs.Environment.{Env, Given, bind}
-use Rattle.dslx_meaning.specs.Items.{meanings_within}
 use Rattle.dslx_meaning.specs.Lists.{and_then, or_else, with_both}
 use Rattle.dslx_meaning.specs.Meaning as m
 use Rattle.dslx_meaning.specs.Meaning.{ArmDen, PatternDen, pattern_denotation, value_of, value_of_block, fitted}
@@ -20,6 +19,7 @@ use Rattle.dslx_meaning.specs.Operators.{of_one_type}
 use Rattle.dslx_meaning.specs.Values.{same_value, bool_value, elements_of, bits_of}
 use Rattle.dslx_meaning.specs.declared.value.DslxValue.{DslxValue, Bits}
 use Rattle.dslx_meaning.specs.declared.value.SignedWord.{SignedWord}
+use Rattle.dslx_names.specs.ConstMachine.Kept.{KeptValues, items_within}
 use Rattle.dslx_names.specs.ConstMachine.Tasks.{ConstState, Waiting, Sequel, ThenStatements, ThenAccumulator, ThenBody, ThenArm, Compares, Turns}
 use Rattle.dslx_names.specs.ConstMachine.Items.{is_constant_within}
 use Rattle.dslx_names.specs.ConstMachine.Layers.{PatternLayer, shape_of}
@@ -55,9 +55,11 @@ pub fits_if_same_keeps : (o : Option DslxValue) (v : DslxValue) (work : List Wai
 fits_if_same_keeps None v work names next run = fails_keep next run
 fits_if_same_keeps (Some w) v work names next run = fits_if_keeps (same_value v w) work names next run
 
-constant_is : (text : Module) (n : ℕ) (name : List ℕ) → (meanings_within text n).is_constant name ≡ is_constant_within text n name
-constant_is text zero name = refl
-constant_is text (suc n) name = refl
+constant_is : (kept : Option KeptValues) (text : Module) (n : ℕ) (name : List ℕ) → (items_within kept text n).is_constant name ≡ is_constant_within text n name
+constant_is None text zero name = refl
+constant_is None text (suc n) name = refl
+constant_is (Some kept) text zero name = refl
+constant_is (Some kept) text (suc n) name = refl
 
 -- a name that is a constant's or not
 abbrev named_fits : Bool → List ℕ → DslxValue → Env → Option Env
@@ -84,7 +86,7 @@ fits_shape_keeps (Shape-F.Shape::Number n) v work names next run = uses_number_k
 fits_shape_keeps (Shape-F.Shape::Name name) v work names next run =
     fits_name_keeps (is_constant_within run.text run.left name) name v work names next run
     ∙ ap (λ b. answer run.todo (fitting next (and_then (named_fits b name v (env_past names run)) (fit_all (env_in run) work)) (place_of run)))
-    (sym (constant_is run.text run.left name))
+    (sym (constant_is run.kept run.text run.left name))
 fits_shape_keeps (Shape-F.Shape::Member e a) v work names next run = uses_member_keeps e.name a.name (doing (Compares v work names next ∷ []) run)
 fits_shape_keeps (Shape-F.Shape::Tuple ps) v work names next run = fits_parts_keep (elements_of v) ps work names next run
 
@@ -187,10 +189,10 @@ binds_nothing_keeps (Shape-F.Shape::Name name) ps pss e run = by (is_constant_wi
         → answer_of (s.binds_nothing (Shape-F.Shape::Name name) (ps ∷ pss) e run)
         ≡ answer run.todo (gives (if_constant (env_in run) (name ∷ (m.all_names (map pattern_denotation ps) ++ names_in pss)) e) (place_of run))
     by true is =
-        let known : (env_in run).items.is_constant name ≡ true = constant_is run.text run.left name ∙ is in
+        let known : (env_in run).items.is_constant name ≡ true = constant_is run.kept run.text run.left name ∙ is in
         rw (is, known) refl
     by false is =
-        let known : (env_in run).items.is_constant name ≡ false = constant_is run.text run.left name ∙ is in
+        let known : (env_in run).items.is_constant name ≡ false = constant_is run.kept run.text run.left name ∙ is in
         rw (is, known) refl
 binds_nothing_keeps (Shape-F.Shape::Member x a) ps pss e run = refl
 binds_nothing_keeps (Shape-F.Shape::Tuple qs) ps pss e run =

@@ -14,7 +14,7 @@ use Rattle.dslx_tree.specs.declared.pattern.Pattern.{Pattern}
 use Rattle.dslx_tree.specs.declared.type_expr.TypeExpr.{TypeExpr}
 use Rattle.dslx_meaning.specs.Callees.{kind_of_call}
 use Rattle.dslx_meaning.specs.Environment.{Env, Given, with_bound}
-use Rattle.dslx_meaning.specs.Items.{meanings_within, all_parametric_args, parametric_args_bound, operands_bound, enum_member, name_of_field}
+use Rattle.dslx_meaning.specs.Items.{all_parametric_args, parametric_args_bound, operands_bound, enum_member, name_of_field}
 use Rattle.dslx_meaning.specs.Lists.{all_some, and_then, with_both, where_true}
 use Rattle.dslx_meaning.specs.Meaning as m
 use Rattle.dslx_meaning.specs.Meaning.{ExprDen, denotation, arg_denotation, pattern_denotation, value_of, value_of_block, written_type, fitted}
@@ -27,6 +27,7 @@ use Rattle.dslx_meaning.specs.declared.ty.DslxType as ty
 use Rattle.dslx_meaning.specs.declared.value.UntypedLiteral.{UntypedLiteral}
 use Rattle.dslx_meaning.specs.declared.value.DslxValue.{DslxValue, Tuple, Array, Struct}
 use Rattle.dslx_meaning.specs.declared.value.SignedWord.{SignedWord}
+use Rattle.dslx_names.specs.ConstMachine.Kept.{KeptValues, items_within}
 use Rattle.dslx_names.specs.ConstMachine.Tasks as task
 use Rattle.dslx_names.specs.ConstMachine.Tasks.{ConstTask, ConstState, ConstCall, Finding, ValueFound, TypeFound, CountFound, ListMaker, MakesTuple, MakesArray, Fills, CallsWith, Waiting, Sequel, ThenStatements, ThenAccumulator, ThenBody, ThenArm}
 use Rattle.dslx_names.specs.ConstMachine.States.{value_in, type_in, count_in_finding}
@@ -36,19 +37,20 @@ use Rattle.dslx_names.proofs.OnConstMachine.Meanings.{arm_by_parts, arm_means, f
 -- where the machine stands, but for what is to be done
 pub record Place : Type 0 where
   pub text : Module
+  pub kept : Option KeptValues
   pub found : Finding
   pub bound : List Given
   pub left : ℕ
 
 abbrev pub place_of : ConstState → Place
-place_of run = record { text = run.text; found = run.found; bound = run.bound; left = run.left }
+place_of run = record { text = run.text; kept = run.kept; found = run.found; bound = run.bound; left = run.left }
 
 -- what is in sight there
 abbrev pub env_at : Place → Env
-env_at p = record { items = meanings_within p.text p.left; bound = p.bound }
+env_at p = record { items = items_within p.kept p.text p.left; bound = p.bound }
 
 abbrev pub env_in : ConstState → Env
-env_in run = record { items = meanings_within run.text run.left; bound = run.bound }
+env_in run = record { items = items_within run.kept run.text run.left; bound = run.bound }
 
 -- where these names are bound too, the last one first
 abbrev pub env_behind : List Given → Place → Env

@@ -23,24 +23,57 @@ use Rattle.dslx_meaning.specs.declared.ty.BitKind.{BitKind}
 use Rattle.dslx_meaning.specs.declared.ty.DslxType.{DslxType}
 use Rattle.dslx_meaning.specs.declared.value.UntypedLiteral.{UntypedLiteral}
 use Rattle.dslx_meaning.specs.declared.value.DslxValue.{DslxValue}
+use Rattle.dslx_tree.specs.declared.item.Module.{Module}
+use Rattle.dslx_names.specs.ConstMachine.Kept.{KeptValues, items_within, kept_within}
 use Rattle.dslx_names.specs.ConstMachine.Tasks.{ConstState, ConstCall}
 use Rattle.dslx_names.specs.ConstMachine.Items as s
 use Rattle.dslx_names.specs.ConstMachine.States.{at_item, one_less}
 use Rattle.dslx_names.proofs.OnConstMachine.Options.{first_of_all}
 use Rattle.dslx_names.proofs.OnConstMachine.Places.{place_of, env_in, gives, gives_type, back_from, answer, answer_of, field_types_in, struct_of, member_in, body_in, call_in, operands_in, parametric_in}
 
+-- ---- what items denote where values are kept
+
+kept_constant : (kept : KeptValues) (m : Module) (n : ℕ) (name : List ℕ) → (kept_within kept m n).constant name ≡ kept.constant name
+kept_constant kept m zero name = refl
+kept_constant kept m (suc n) name = refl
+
+kept_member : (kept : KeptValues) (m : Module) (n : ℕ) (e a : List ℕ) → (kept_within kept m n).member e a ≡ kept.member e a
+kept_member kept m zero e a = refl
+kept_member kept m (suc n) e a = refl
+
+-- but for values, these items are those
+record AreButValues (items others : Meanings) : Type 0 where
+  types : (name : List ℕ) → items.type_named name ≡ others.type_named name
+  structs : (name : List ℕ) → items.struct_named name ≡ others.struct_named name
+  calls : (name : List ℕ) (parametric_args vs : List DslxValue) → items.call name parametric_args vs ≡ others.call name parametric_args vs
+
+-- they are the items of the text over those of shorter chains
+no_items : (k : Option KeptValues) (m : Module) → AreButValues (items_within k m zero) i.nothing_known
+no_items None m = record { types = λ name. refl; structs = λ name. refl; calls = λ name parametric_args vs. refl }
+no_items (Some kept) m = record { types = λ name. refl; structs = λ name. refl; calls = λ name parametric_args vs. refl }
+
+over_items : (k : Option KeptValues) (m : Module) (n : ℕ) → AreButValues (items_within k m (suc n)) (i.meanings_over m (items_within k m n))
+over_items None m n = record { types = λ name. refl; structs = λ name. refl; calls = λ name parametric_args vs. refl }
+over_items (Some kept) m n = record { types = λ name. refl; structs = λ name. refl; calls = λ name parametric_args vs. refl }
+
 -- ---- constants, names, members
 
 pub uses_constant_keeps : (name : List ℕ) (run : ConstState) → answer_of (s.uses_constant name run) ≡ answer run.todo (gives ((env_in run).items.constant name) (place_of run))
-uses_constant_keeps name run = within run.left
+uses_constant_keeps name run = by run.kept refl
   where
-    found : (n : ℕ) (o : Option Constant) → answer_of (s.at_constant n o run) ≡ answer run.todo (gives (and_then o (i.constant_value (meanings_within run.text n))) (place_of run))
+    found : (n : ℕ) (o : Option Constant) → answer_of (s.at_constant n o run) ≡ answer run.todo (gives (and_then o (i.constant_value (items_within run.kept run.text n))) (place_of run))
     found n None = refl
     found n (Some c) = refl
 
-    within : (n : ℕ) → answer_of (s.constant_from (one_less n) name run) ≡ answer run.todo (gives ((meanings_within run.text n).constant name) (place_of run))
-    within zero = refl
-    within (suc n) = found n (as_constant (item_named name run.text.items))
+    within : (n : ℕ) → run.kept ≡ None → answer_of (s.constant_from (one_less n) name run) ≡ answer run.todo (gives ((meanings_within run.text n).constant name) (place_of run))
+    within zero e = refl
+    within (suc n) e =
+        found n (as_constant (item_named name run.text.items))
+        ∙ ap (λ k. answer run.todo (gives (and_then (as_constant (item_named name run.text.items)) (i.constant_value (items_within k run.text n))) (place_of run))) e
+
+    by : (k : Option KeptValues) → run.kept ≡ k → answer_of (s.constant_by k name run) ≡ answer run.todo (gives ((items_within k run.text run.left).constant name) (place_of run))
+    by None e = within run.left e
+    by (Some kept) e = ap (λ v. answer run.todo (gives v (place_of run))) (sym (kept_constant kept run.text run.left name))
 
 pub uses_name_keeps : (name : List ℕ) (run : ConstState) → answer_of (s.uses_name name run) ≡ answer run.todo (gives (value_of_name name (env_in run)) (place_of run))
 uses_name_keeps name run = by (given_in name run.bound) refl
@@ -57,21 +90,28 @@ member_bits_are items kind e = by e.bare
     by (Some b) = refl
 
 pub uses_member_keeps : (e a : List ℕ) (run : ConstState) → answer_of (s.uses_member e a run) ≡ answer run.todo (gives ((env_in run).items.member e a) (place_of run))
-uses_member_keeps e a run = within run.left
+uses_member_keeps e a run = by run.kept refl
   where
-    member : (n : ℕ) (x : Enum) (o : Option Member) → answer_of (s.at_member n x o run) ≡ answer run.todo (gives (and_then o (i.member_value (meanings_within run.text n) x)) (place_of run))
+    member : (n : ℕ) (x : Enum) (o : Option Member) → answer_of (s.at_member n x o run) ≡ answer run.todo (gives (and_then o (i.member_value (items_within run.kept run.text n) x)) (place_of run))
     member n x None = refl
-    member n x (Some mem) = λ j. answer run.todo (gives (and_then (i.base_of (meanings_within run.text n) x)
-        (λ kind. and_then (sym (member_bits_are (meanings_within run.text n) kind (denotation mem.value)) j) (i.enum_member x.name.name))) (place_of run))
+    member n x (Some mem) = λ j. answer run.todo (gives (and_then (i.base_of (items_within run.kept run.text n) x)
+        (λ kind. and_then (sym (member_bits_are (items_within run.kept run.text n) kind (denotation mem.value)) j) (i.enum_member x.name.name))) (place_of run))
+
+    member_there : Meanings → Option DslxValue
+    member_there items = and_then (as_enum (item_named e run.text.items)) (λ x. and_then (member_named a x.members) (i.member_value items x))
 
     found : (n : ℕ) (o : Option Enum) → answer_of (s.at_member_of n o a run)
-        ≡ answer run.todo (gives (and_then o (λ x. and_then (member_named a x.members) (i.member_value (meanings_within run.text n) x))) (place_of run))
+        ≡ answer run.todo (gives (and_then o (λ x. and_then (member_named a x.members) (i.member_value (items_within run.kept run.text n) x))) (place_of run))
     found n None = refl
     found n (Some x) = member n x (member_named a x.members)
 
-    within : (n : ℕ) → answer_of (s.member_from (one_less n) e a run) ≡ answer run.todo (gives ((meanings_within run.text n).member e a) (place_of run))
-    within zero = refl
-    within (suc n) = found n (as_enum (item_named e run.text.items))
+    within : (n : ℕ) → run.kept ≡ None → answer_of (s.member_from (one_less n) e a run) ≡ answer run.todo (gives ((meanings_within run.text n).member e a) (place_of run))
+    within zero q = refl
+    within (suc n) q = found n (as_enum (item_named e run.text.items)) ∙ ap (λ k. answer run.todo (gives (member_there (items_within k run.text n)) (place_of run))) q
+
+    by : (k : Option KeptValues) → run.kept ≡ k → answer_of (s.member_by k e a run) ≡ answer run.todo (gives ((items_within k run.text run.left).member e a) (place_of run))
+    by None q = within run.left q
+    by (Some kept) q = ap (λ v. answer run.todo (gives v (place_of run))) (sym (kept_member kept run.text run.left e a))
 
 -- ---- types
 
@@ -82,21 +122,21 @@ field_types_keep ts (f ∷ fs) x run =
     ap (λ o. answer run.todo (gives_type o (place_of run)))
     (sym (first_of_all (written_type f.ty (env_in run)) (map (λ (g : Field). written_type g.ty (env_in run)) fs) (λ us. struct_of x (ts ++ us))))
 
-at_struct_keeps : (n : ℕ) (o : Option Struct) (run : ConstState) → answer_of (s.at_struct n o run) ≡ answer run.todo (gives_type (and_then o (i.struct_type (meanings_within run.text n))) (place_of run))
+at_struct_keeps : (n : ℕ) (o : Option Struct) (run : ConstState) → answer_of (s.at_struct n o run) ≡ answer run.todo (gives_type (and_then o (i.struct_type (items_within run.kept run.text n))) (place_of run))
 at_struct_keeps n None run = refl
 at_struct_keeps n (Some x) run = field_types_keep [] x.fields x (at_item n [] run)
 
 pub uses_struct_keeps : (name : List ℕ) (run : ConstState) → answer_of (s.uses_struct name run) ≡ answer run.todo (gives_type ((env_in run).items.struct_named name) (place_of run))
 uses_struct_keeps name run = within run.left
   where
-    within : (n : ℕ) → answer_of (s.struct_from (one_less n) name run) ≡ answer run.todo (gives_type ((meanings_within run.text n).struct_named name) (place_of run))
-    within zero = refl
-    within (suc n) = at_struct_keeps n (as_struct (item_named name run.text.items)) run
+    within : (n : ℕ) → answer_of (s.struct_from (one_less n) name run) ≡ answer run.todo (gives_type ((items_within run.kept run.text n).struct_named name) (place_of run))
+    within zero = ap (λ t. answer run.todo (gives_type t (place_of run))) (sym ((no_items run.kept run.text).structs name))
+    within (suc n) = at_struct_keeps n (as_struct (item_named name run.text.items)) run ∙ ap (λ t. answer run.todo (gives_type t (place_of run))) (sym ((over_items run.kept run.text n).structs name))
 
 pub uses_type_keeps : (name : List ℕ) (run : ConstState) → answer_of (s.uses_type name run) ≡ answer run.todo (gives_type ((env_in run).items.type_named name) (place_of run))
 uses_type_keeps name run = within run.left
   where
-    found : (n : ℕ) (o : Option Definition) → answer_of (s.at_type_item n o run) ≡ answer run.todo (gives_type (i.type_of_item (meanings_within run.text n) o) (place_of run))
+    found : (n : ℕ) (o : Option Definition) → answer_of (s.at_type_item n o run) ≡ answer run.todo (gives_type (i.type_of_item (items_within run.kept run.text n) o) (place_of run))
     found n None = refl
     found n (Some (d.Function f)) = refl
     found n (Some (d.Proc p)) = refl
@@ -105,9 +145,9 @@ uses_type_keeps name run = within run.left
     found n (Some (d.Struct x)) = at_struct_keeps n (Some x) run
     found n (Some (d.Enum e)) = refl
 
-    within : (n : ℕ) → answer_of (s.type_from (one_less n) name run) ≡ answer run.todo (gives_type ((meanings_within run.text n).type_named name) (place_of run))
-    within zero = refl
-    within (suc n) = found n (item_named name run.text.items)
+    within : (n : ℕ) → answer_of (s.type_from (one_less n) name run) ≡ answer run.todo (gives_type ((items_within run.kept run.text n).type_named name) (place_of run))
+    within zero = ap (λ t. answer run.todo (gives_type t (place_of run))) (sym ((no_items run.kept run.text).types name))
+    within (suc n) = found n (item_named name run.text.items) ∙ ap (λ t. answer run.todo (gives_type t (place_of run))) (sym ((over_items run.kept run.text n).types name))
 
 -- ---- calls
 
@@ -141,14 +181,14 @@ pub uses_function_keeps : (name : List ℕ) (parametric_args vs : List DslxValue
 uses_function_keeps name parametric_args vs run = within run.left
   where
     found : (n : ℕ) (o : Option Function) → answer_of (s.at_function n o parametric_args vs run)
-        ≡ answer run.todo (gives (and_then o (λ f. i.call_of (meanings_within run.text n) f parametric_args vs)) (place_of run))
+        ≡ answer run.todo (gives (and_then o (λ f. i.call_of (items_within run.kept run.text n) f parametric_args vs)) (place_of run))
     found n None = refl
     found n (Some f) =
-        ap (λ o. answer run.todo (gives (and_then o (λ ns. i.function_value (meanings_within run.text n) f ns vs)) (place_of run))) (parametric_args_inferred (meanings_within run.text n) f parametric_args vs)
+        ap (λ o. answer run.todo (gives (and_then o (λ ns. i.function_value (items_within run.kept run.text n) f ns vs)) (place_of run))) (parametric_args_inferred (items_within run.kept run.text n) f parametric_args vs)
 
-    within : (n : ℕ) → answer_of (s.function_from (one_less n) name parametric_args vs run) ≡ answer run.todo (gives ((meanings_within run.text n).call name parametric_args vs) (place_of run))
-    within zero = refl
-    within (suc n) = found n (as_function (item_named name run.text.items))
+    within : (n : ℕ) → answer_of (s.function_from (one_less n) name parametric_args vs run) ≡ answer run.todo (gives ((items_within run.kept run.text n).call name parametric_args vs) (place_of run))
+    within zero = ap (λ v. answer run.todo (gives v (place_of run))) (sym ((no_items run.kept run.text).calls name parametric_args vs))
+    within (suc n) = found n (as_function (item_named name run.text.items)) ∙ ap (λ v. answer run.todo (gives v (place_of run))) (sym ((over_items run.kept run.text n).calls name parametric_args vs))
 
 pub operands_keep : (vs : List DslxValue) (call : ConstCall) (fs : List Field) (run : ConstState) → call.operands ≡ vs
     → answer_of (s.operands_on vs call fs run) ≡ answer run.todo (back_from call (operands_in call fs (env_in run)) (place_of run))

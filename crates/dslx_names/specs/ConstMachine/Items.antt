@@ -18,6 +18,7 @@ use Rattle.dslx_meaning.specs.Values.{type_of_value}
 use Rattle.dslx_meaning.specs.declared.ty.DslxType.{DslxType}
 use Rattle.dslx_meaning.specs.declared.ty.DslxType as ty
 use Rattle.dslx_meaning.specs.declared.value.DslxValue.{DslxValue}
+use Rattle.dslx_names.specs.ConstMachine.Kept.{KeptValues}
 use Rattle.dslx_names.specs.ConstMachine.Tasks.{ConstState, ConstCall, ValueDen, DoesBlock, FindsType, FindsMember, MakesEnumType, GathersFieldTypes, FindsParametrics, GivesParametric, GivesOperands, Numbers, Returns}
 use Rattle.dslx_names.specs.ConstMachine.States.{finds_value, finds_type, doing, one_less, at_item, back_at, binding}
 
@@ -39,9 +40,13 @@ abbrev pub constant_from : Option ℕ → List ℕ → ConstState → ConstState
 constant_from None name run = finds_value None run
 constant_from (Some n) name run = at_constant n (as_constant (item_named name run.text.items)) run
 
+abbrev pub constant_by : Option KeptValues → List ℕ → ConstState → ConstState
+constant_by None name run = constant_from (one_less run.left) name run
+constant_by (Some kept) name run = finds_value (kept.constant name) run
+
 -- the value of a constant
 abbrev pub uses_constant : List ℕ → ConstState → ConstState
-uses_constant name run = constant_from (one_less run.left) name run
+uses_constant name run = constant_by run.kept name run
 
 abbrev pub given_or_constant : Option DslxValue → List ℕ → ConstState → ConstState
 given_or_constant None name run = uses_constant name run
@@ -63,9 +68,13 @@ abbrev pub member_from : Option ℕ → List ℕ → List ℕ → ConstState →
 member_from None e a run = finds_value None run
 member_from (Some n) e a run = at_member_of n (as_enum (item_named e run.text.items)) a run
 
+abbrev pub member_by : Option KeptValues → List ℕ → List ℕ → ConstState → ConstState
+member_by None e a run = member_from (one_less run.left) e a run
+member_by (Some kept) e a run = finds_value (kept.member e a) run
+
 -- the value of an enum's member
 abbrev pub uses_member : List ℕ → List ℕ → ConstState → ConstState
-uses_member e a run = member_from (one_less run.left) e a run
+uses_member e a run = member_by run.kept e a run
 
 -- ---- types
 

@@ -25,6 +25,7 @@ use Rattle.dslx_meaning.specs.declared.ty.DslxType.{DslxType}
 use Rattle.dslx_meaning.specs.declared.ty.DslxType as ty
 use Rattle.dslx_meaning.specs.declared.value.UntypedLiteral.{UntypedLiteral}
 use Rattle.dslx_meaning.specs.declared.value.DslxValue.{DslxValue}
+use Rattle.dslx_names.specs.ConstMachine.Kept.{KeptValues}
 use Rattle.dslx_names.specs.ConstMachine.Tasks as task
 use Rattle.dslx_names.specs.ConstMachine.Tasks.{ConstTask, ConstState, Finding, OneMaker, MakesPrefix, MakesField, MakesElement, MakesCast, MakesSlice, PairMaker, MakesBinary, MakesIndexed, MakesPart, MakesTuple, MakesArray, ThenStatements}
 use Rattle.dslx_names.specs.ConstMachine.Layers.{TypeLayer, type_of, untyped_of, count_of}
@@ -240,6 +241,10 @@ abbrev pub after : ℕ → ConstState → Option Finding
 after zero run = answered run.todo run.found
 after (suc n) run = after n (stepped_first run.todo run)
 
--- the machine that is to do this in a text where these names are bound, the last one first
+-- the machine that is to do this in a text where these values are kept and these names are bound, the last one first
+abbrev pub begins_over : Module → Option KeptValues → List Given → ConstTask → ConstState
+begins_over m kept bound d = record { text = m; kept = kept; todo = d ∷ []; found = task.ValueFound None; bound = bound; left = length m.items }
+
+-- the same where none are kept
 abbrev pub begins : Module → List Given → ConstTask → ConstState
-begins m bound d = record { text = m; todo = d ∷ []; found = task.ValueFound None; bound = bound; left = length m.items }
+begins m bound d = begins_over m None bound d

@@ -24,6 +24,7 @@ use Rattle.dslx_meaning.specs.declared.ty.DslxType.{DslxType}
 use Rattle.dslx_meaning.specs.declared.value.UntypedLiteral.{UntypedLiteral}
 use Rattle.dslx_meaning.specs.declared.value.DslxValue.{DslxValue}
 use Rattle.dslx_meaning.specs.declared.value.SignedWord.{SignedWord}
+use Rattle.dslx_names.specs.ConstMachine.Kept.{KeptValues}
 
 -- what was found last: the value of an expression, a type that is written, or a size or bound; or that there is none
 pub data Finding : Type 0 where
@@ -155,6 +156,8 @@ pub data ConstTask : Type 0 where
 -- where the machine stands
 pub record ConstState : Type 0 where
   pub text : Module
+  -- the values of its constants and members, where they are kept
+  pub kept : Option KeptValues
   pub todo : List ConstTask
   pub found : Finding
   pub bound : List Given

@@ -24,7 +24,7 @@ use Rattle.dslx_names.proofs.Lemmas.ConstMachine.{comes_to, comes_to_stepped}
 
 -- where nothing is to be done, and a chain of uses may go through so many items
 abbrev at_rest : Module → List Given → ℕ → ConstState
-at_rest m bound n = record { text = m; todo = []; found = ValueFound None; bound = bound; left = n }
+at_rest m bound n = record { text = m; kept = None; todo = []; found = ValueFound None; bound = bound; left = n }
 
 abbrev items_there : Module → ℕ → Env
 items_there m n = record { items = meanings_within m n; bound = [] }

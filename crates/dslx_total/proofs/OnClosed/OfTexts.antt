@@ -20,16 +20,16 @@ use Rattle.dslx_tree.specs.declared.process.Proc.{Proc}
 use Rattle.dslx_tree.specs.declared.process.Spawn.{Spawn}
 use Rattle.dslx_meaning.specs.Environment.{Env}
 use Rattle.dslx_meaning.specs.Items.{as_function, item_named, name_of_definition, parametric_args_bound}
-use Rattle.dslx_meaning.specs.Lists.{and_then, where_true}
+use Rattle.dslx_meaning.specs.Lists.{where_true}
 use Rattle.dslx_meaning.specs.Meaning.{arg_denotation, denotation}
 use Rattle.dslx_meaning.specs.Network.{as_proc}
 use Rattle.dslx_meaning.specs.Operators.{number_value}
 use Rattle.dslx_meaning.specs.declared.ty.DslxType.{DslxType}
 use Rattle.dslx_meaning.specs.declared.value.DslxValue.{DslxValue}
 use Rattle.dslx_meaning.specs.declared.value.UntypedLiteral.{UntypedLiteral}
-use Rattle.dslx_meaning.specs.Rules.AggregateRules.{range_faults, wanted_faults}
+use Rattle.dslx_meaning.specs.Rules.AggregateRules.{wanted_faults}
 use Rattle.dslx_meaning.specs.Rules.CallRules.{JudgedThere, ParametricArgsSeen, ParametricArgument, given_judgements, given_parametric_args, is_refused, reached_by, typing_there}
-use Rattle.dslx_meaning.specs.Rules.ConstantRules.{ConstantSeen, constant_of, count_of, is_empty}
+use Rattle.dslx_meaning.specs.Rules.ConstantRules.{constant_of, count_of, is_empty}
 use Rattle.dslx_meaning.specs.Rules.ItemRules.{ConstantFound, Found, base_if_bits, enum_seen, function_seen, has_equal_values, item_type_env, member_constant, member_values, members_found, only_faults, typing_of_type}
 use Rattle.dslx_meaning.specs.Rules.Mentions.{AsEnum, AsFunction, AsPattern, AsProc, AsStruct, AsType, AsValue, Mention, Use, arg_if, definition_mentions, ends_mentions, is_of_use, mentioned_in_arg, item_reaches, mentioned_in_type, mentions_of, names_mentioned, parametric_names, reaches_within}
 use Rattle.dslx_meaning.specs.Rules.ModuleRules.{found_of_instance, found_of_item, instances_of, is_reached, item_found, items_found, outside_instances, top_found}
@@ -39,19 +39,20 @@ use Rattle.dslx_meaning.specs.Rules.NodeRules.{arg_pair, expr_pair}
 use Rattle.dslx_meaning.specs.Rules.OperatorRules.{is_bits, unless_type}
 use Rattle.dslx_meaning.specs.Rules.PatternRules.{is_there}
 use Rattle.dslx_meaning.specs.Rules.ProcRules.{Made, behind_ends, channel_found, channel_type, config_statements_found, depth_found, depth_limit, ends_found, made_at_start, made_with, proc_parametric_args, proc_seen, proc_type_env, right_spawn, spawn_found, spawn_of, unknown_ends}
-use Rattle.dslx_meaning.specs.Rules.TypeEnvs.{ExprPair, GlobalEnv, Instance, TypeEnv, breaks, breaks_if, faults_of_all, has_broken, reached_of_all, span_of, untyped_of}
+use Rattle.dslx_meaning.specs.Rules.TypeEnvs.{GlobalEnv, Instance, TypeEnv, breaks, breaks_if, faults_of_all, has_broken, reached_of_all, span_of, untyped_of}
 use Rattle.dslx_core.proofs.Lemmas.Typing.Accepted.{IsAccepted, all_empty, all_so, instance_faults, one_of_these}
 use Rattle.dslx_core.proofs.Lemmas.Typing.Complete.{alias_has_type, constant_has_value, enum_has_type, item_env, item_typed, none_own, struct_has_type}
 use Rattle.dslx_core.proofs.Lemmas.Typing.Depends.{every_item_settles, no_proc_in_type, reached_below, settles_longer}
 use Rattle.dslx_core.proofs.Lemmas.Typing.Laws.{and_true}
 use Rattle.dslx_core.proofs.Lemmas.Typing.Laws.Chains.{itself, or_first, or_second, same_name}
 use Rattle.dslx_core.proofs.Lemmas.Typing.Sound.{AreGiven, all_in, argument_gives, constant_has, count_has, expression_gives, none_in, not_broken, parametric_args_given, passed, some_fault, type_has_den, typing_right}
-use Rattle.dslx_core.proofs.Lemmas.Typing.Typed.{none_some, same_some}
+use Rattle.dslx_core.proofs.Lemmas.Typing.Typed.{none_some, same_some, untyped_there}
 use Rattle.dslx_core.proofs.Lemmas.Typing.TypingRelations.{arguments_reach, found_ends, given_reach, item_so_named, join, written_type_reaches}
 use Rattle.dslx_core.specs.Typing.Complete.Acts.{acts_found}
 use Rattle.dslx_core.specs.Typing.Complete.HasValue.{AreTyped, IsWellTypedFound}
 use Rattle.dslx_core.specs.Typing.GlobalEnv.WellTypedParts.{EachItemWellTyped}
 use Rattle.dslx_core.specs.Typing.Typed.Complete.{IsComplete}
+use Rattle.dslx_core.specs.Typing.Typed.Given.{HasNarrowLeaves}
 use Rattle.dslx_core.specs.Typing.Typed.Numbers.{AllOwn}
 use Rattle.dslx_core.specs.Typing.Typed.WellTyped.{IsWellTypedEnv}
 use Rattle.dslx_core.specs.Typing.TypingRelations.Called.{called}
@@ -64,10 +65,12 @@ use Rattle.dslx_total.proofs.OnClosed.OfItems.{acts_there, ends_there, function_
 use Rattle.dslx_total.proofs.OnConfigs.Configs.{depth_none, depth_reaches}
 use Rattle.dslx_total.proofs.OnExpressions.Parts.{all_sound as sound_of}
 use Rattle.dslx_total.proofs.OnFamilies.Acts.{parts_well_typed}
+use Rattle.dslx_total.proofs.OnFamilies.Knows.{Knows, all_sound, knows_itself}
 use Rattle.dslx_total.proofs.OnFamilies.Parametrics.{LoopsHaveNoValue}
-use Rattle.dslx_total.proofs.OnFamilies.Reached.{IsProcOf, K, Listed, Passing, all, all_listed, all_sound, arguments_none, ends_none, most, reaching}
+use Rattle.dslx_total.proofs.OnFamilies.Reached.{IsProcOf, K, Listed, Passing, all, all_listed, arguments_none, ends_none, most}
 use Rattle.dslx_total.proofs.OnFamilies.Spawns.{each_argument, parametric_args_there, proc_named, well_behind}
 use Rattle.dslx_total.proofs.OnFamilies.There.{IsThere, well}
+use Rattle.dslx_total.proofs.OnOwn.OfItems.{member_by, member_is}
 use Rattle.dslx_total.proofs.OnOwn.OfTexts.{all_here, callees, here, known_item, seen_there, test}
 
 -- ---- what the three laws of reaching say, as they are called
@@ -83,20 +86,12 @@ ItemsReach = (P : List ℕ → Bool) (known : GlobalEnv) (x : Definition) → Is
 
 -- ---- items that are neither functions nor procs
 
-abbrev of_base : Option DslxType → ConstantSeen → List Fault → ConstantFound
-of_base base c wrong = record { found = record { faults = c.judgement.faults ++ wrong; reached = c.judgement.reached }; value = and_then base (λ t. if is_empty wrong then c.value else None) }
-
-abbrev number_in : Option DslxType → UntypedLiteral → Option DslxValue
-number_in None number = None
-number_in (Some t) number = number_value t number
-
-abbrev member_by : TypeEnv → Option DslxType → ExprPair → Option UntypedLiteral → ConstantFound
-member_by context base pair None = of_base base (constant_of context pair) (wanted_faults (span_of pair) base (constant_of context pair).judgement.ty)
-member_by context base pair (Some number) = record { found = only_faults (range_faults (span_of pair) base number); value = number_in base number }
-
-member_there : (context : TypeEnv) (env : Env) → IsWellTypedEnv context env → (t : DslxType) (x : Member) → (member_constant context (Some t) x).found.faults ≡ [] → list_all context.known.is_sound (member_constant context (Some t) x).found.reached ≡ true
+member_there : (context : TypeEnv) (env : Env) → IsWellTypedEnv context env → (t : DslxType) → HasNarrowLeaves t → (x : Member) → (member_constant context (Some t) x).found.faults ≡ [] → list_all context.known.is_sound (member_constant context (Some t) x).found.reached ≡ true
     → is_there (member_constant context (Some t) x).value ≡ true
-member_there context env h t x f r = by_untyped (untyped_of (expr_pair x.value)) f r
+member_there context env h t narrow x f r =
+    let same = member_is context (Some t) x in
+    ap (λ (c : ConstantFound). is_there c.value) same
+    ∙ by_untyped (untyped_of (expr_pair x.value)) (ap (λ (c : ConstantFound). c.found.faults) (sym same) ∙ f) (ap (λ (c : ConstantFound). list_all context.known.is_sound c.found.reached) (sym same) ∙ r)
   where
     by_untyped : (o : Option UntypedLiteral) → (member_by context (Some t) (expr_pair x.value) o).found.faults ≡ [] → list_all context.known.is_sound (member_by context (Some t) (expr_pair x.value) o).found.reached ≡ true
         → is_there (member_by context (Some t) (expr_pair x.value) o).value ≡ true
@@ -106,17 +101,17 @@ member_there context env h t x f r = by_untyped (untyped_of (expr_pair x.value))
         let q = none_in c.judgement.faults (wanted_faults (span_of pair) (Some t) c.judgement.ty) f in
         let k = constant_has context env pair (denotation x.value) (expression_gives x.value) h (record { faults = q.0; reached = r }) in
         (λ i. is_there (if is_empty (q.1 i) then c.value else None)) ∙ ap is_there k.known
-    by_untyped (Some number) f r = passed (is_there (number_value t number)) 6 (span_of (expr_pair x.value)) f
+    by_untyped (Some number) f r = ap is_there (untyped_there t narrow number) ∙ passed (is_there (number_value t number)) 6 (span_of (expr_pair x.value)) f
 
-members_there : (context : TypeEnv) (env : Env) → IsWellTypedEnv context env → (t : DslxType) (before : List (List ℕ)) (xs : List Member) → (members_found context (Some t) before xs).faults ≡ [] → list_all context.known.is_sound (members_found context (Some t) before xs).reached ≡ true
+members_there : (context : TypeEnv) (env : Env) → IsWellTypedEnv context env → (t : DslxType) → HasNarrowLeaves t → (before : List (List ℕ)) (xs : List Member) → (members_found context (Some t) before xs).faults ≡ [] → list_all context.known.is_sound (members_found context (Some t) before xs).reached ≡ true
     → MembersThere context (Some t) xs
-members_there context env h t before [] f r = tt
-members_there context env h t before (x ∷ xs) f r =
+members_there context env h t narrow before [] f r = tt
+members_there context env h t narrow before (x ∷ xs) f r =
     let own = (member_constant context (Some t) x).found in
     let rest = members_found context (Some t) (x.name.name ∷ before) xs in
     let a = none_in own.faults rest.faults (none_in (listed_name before x.name) (own.faults ++ rest.faults) f).1 in
     let b = all_in context.known.is_sound own.reached rest.reached r in
-    (member_there context env h t x a.0 b.0, members_there context env h t (x.name.name ∷ before) xs a.1 b.1)
+    (member_there context env h t narrow x a.0 b.0, members_there context env h t narrow (x.name.name ∷ before) xs a.1 b.1)
 
 module _ (known : GlobalEnv) (complete : IsComplete known) (typed : AreTyped known) where
   enum_there : (e : Enum) → IsWellTypedFound known (enum_seen known e).found → IsItemThere known (d.Enum e)
@@ -134,7 +129,7 @@ module _ (known : GlobalEnv) (complete : IsComplete known) (typed : AreTyped kno
       let k = (type_has_den e.base).known context env place (record { faults = g.0; reached = r.0 }) in
       let b = passed (is_bits k.0) 23 e.span (ap (unless_type is_bits 23 e.span) (sym k.1) ∙ f.1) in
       let same : base_if_bits base.ty ≡ Some k.0 = ap base_if_bits k.1 ∙ ap (λ t. where_true t (Some k.0)) b in
-      let each = members_there context env place k.0 [] e.members (ap (λ o. (members_found context o [] e.members).faults) (sym same) ∙ g.1) (ap (λ o. list_all known.is_sound (members_found context o [] e.members).reached) (sym same) ∙ r.1) in
+      let each = members_there context env place k.0 ((type_has_den e.base).narrow context g.0 k.0 k.1) [] e.members (ap (λ o. (members_found context o [] e.members).faults) (sym same) ∙ g.1) (ap (λ o. list_all known.is_sound (members_found context o [] e.members).reached) (sym same) ∙ r.1) in
       (ap is_there (enum_has_type known complete typed e well_typed).is, subst (λ o. MembersThere context o e.members) (sym same) each)
 
   other_there : (x : Definition) → is_of_use AsFunction (Some x) ≡ false → is_of_use AsProc (Some x) ≡ false → IsWellTypedFound known (item_found known x) → IsItemThere known x
@@ -157,6 +152,24 @@ item_passes P known (i ∷ is) name x e h =
     by_name true e first rest = ap (λ y. list_all P (item_found known y).reached) (sym (same_some i.definition x e)) ∙ first
     by_name false e first rest = rest e
 
+-- the name of an instance that is checked is a checked item's
+named_so : (m : Module) (top : Option (List ℕ)) (o : Option Definition) (name : List ℕ) → has_instance m top name ≡ true → is_checked_as m top name o ≡ true
+named_so m top (Some (d.Function f)) name h = h
+named_so m top (Some (d.Proc p)) name h = h
+named_so m top (Some (d.Constant c)) name h = refl
+named_so m top (Some (d.Alias x)) name h = refl
+named_so m top (Some (d.Struct x)) name h = refl
+named_so m top (Some (d.Enum x)) name h = refl
+named_so m top None name h = refl
+
+instance_named : (is : List Instance) (i : Instance) → IsOneOf i is → list_any (λ (j : Instance). bytes_eq i.name j.name) is ≡ true
+instance_named [] i one = absurd one
+instance_named (x ∷ xs) i (inl e) = or_first (bytes_eq i.name x.name) (list_any (λ (j : Instance). bytes_eq i.name j.name) xs) (ap (λ (j : Instance). bytes_eq i.name j.name) (sym e) ∙ itself i.name)
+instance_named (x ∷ xs) i (inr one) = or_second (bytes_eq i.name x.name) (list_any (λ (j : Instance). bytes_eq i.name j.name) xs) (instance_named xs i one)
+
+pub checked_named : (m : Module) (top : Option (List ℕ)) (i : Instance) → IsOneOf i (instances_of m top) → is_checked_item m top i.name ≡ true
+checked_named m top i one = named_so m top (item_named i.name m.items) i.name (instance_named (instances_of m top) i one)
+
 -- an instance of this name
 instance_so_named : (is : List Instance) (name : List ℕ) → list_any (λ (j : Instance). bytes_eq name j.name) is ≡ true → (i : Instance) × IsOneOf i is × (name ≡ i.name)
 instance_so_named [] name h = absurd (true≢false (sym h))
@@ -170,6 +183,9 @@ instance_so_named (x ∷ xs) name h = by_first (bytes_eq name x.name) refl h (in
 module _ (m : Module) (top : Option (List ℕ)) (s : IsAccepted m top) (loops : LoopsHaveNoValue m) (complete : IsComplete (K m top s)) (typed : AreTyped (K m top s)) where
   abbrev known : GlobalEnv
   known = K m top s
+
+  abbrev knows : Knows m top s known
+  knows = knows_itself m top s loops complete typed
 
   abbrev is_checked : Instance → Bool
   is_checked i = is_reached i (all m top s)
@@ -185,7 +201,7 @@ module _ (m : Module) (top : Option (List ℕ)) (s : IsAccepted m top) (loops : 
 
   -- ---- procs
 
-  module _ (p : Proc) (parametric_args : List DslxValue) (there : IsThere m top s p parametric_args) where
+  module _ (p : Proc) (parametric_args : List DslxValue) (there : IsThere m top s known p parametric_args) where
     abbrev context : TypeEnv
     context = proc_type_env known p parametric_args
 
@@ -196,7 +212,7 @@ module _ (m : Module) (top : Option (List ℕ)) (s : IsAccepted m top) (loops : 
     bound = parametric_names p.parametrics
 
     place : IsWellTypedEnv context env
-    place = well m top s complete typed p parametric_args there
+    place = well m top s known complete typed p parametric_args there
 
     depth_there : (made : Made) (o : Option Arg) → (depth_found (behind_ends context made) o).faults ≡ [] → list_all known.is_sound (depth_found (behind_ends context made) o).reached ≡ true → (a : Arg) → o ≡ Some a
         → is_there (count_of (behind_ends context made) (arg_pair a).1).count ≡ true
@@ -214,9 +230,9 @@ module _ (m : Module) (top : Option (List ℕ)) (s : IsAccepted m top) (loops : 
         let word = channel_type behind c.word in
         let depth = depth_found behind c.depth in
         let P = Passing m top s in
-        let passing = join P word.reached depth.reached (written_type_reaches P c.word bound behind (reaching m top s behind.owner (mentioned_in_type c.word bound) (no_proc_in_type c.word bound)))
-        (depth_reaches P behind c.depth bound (reaching m top s behind.owner (arg_if c.depth bound) (depth_none c.depth bound))) in
-        let k = all_in known.is_sound word.reached depth.reached (all_sound m top s (word.reached ++ depth.reached) passing r) in
+        let passing = join P word.reached depth.reached (written_type_reaches P c.word bound behind (knows.reaching behind.owner (mentioned_in_type c.word bound) (no_proc_in_type c.word bound)))
+        (depth_reaches P behind c.depth bound (knows.reaching behind.owner (arg_if c.depth bound) (depth_none c.depth bound))) in
+        let k = all_in known.is_sound word.reached depth.reached (all_sound m top s known knows (word.reached ++ depth.reached) passing r) in
         let q = none_in word.faults depth.faults (none_in _ (word.faults ++ depth.faults) f).1 in
         record {
           word = word_type inside own known complete typed (callees m top s loops complete typed) behind env (well_behind context env made place) refl c.word q.0 k.0;
@@ -252,7 +268,9 @@ module _ (m : Module) (top : Option (List ℕ)) (s : IsAccepted m top) (loops : 
           let right = typing_right (cyclic target) n c.0 no_wrong in
           let listed = all_in is_checked declared.reached (reached_by (is_refused (cyclic target) n) target.name.name n.values) r in
           let named = proc_named m sp.target.name target is in
-          let k = parametric_args_there m top s loops complete typed sp.target.name target is named gs g.values g.each g.mean c.1 (ap (λ (j : JudgedThere). j.faults) (sym right) ∙ e.1) (ap (λ (j : JudgedThere). list_all is_checked j.reached) (sym right) ∙ listed.0) no_wrong in
+          let checked : (vs : List DslxValue) → n.values ≡ Some vs → is_checked (record { name = target.name.name; parametric_args = vs }) ≡ true = λ vs q.
+          (and_true (is_checked (record { name = target.name.name; parametric_args = vs })) true ((λ t. list_all is_checked (reached_by (has_broken (sym c.0 t) || sym no_wrong t) target.name.name (sym q t))) ∙ listed.1)).0 in
+          let k = parametric_args_there m top s known knows complete typed target named gs g.values g.each g.mean c.1 (ap (λ (j : JudgedThere). j.faults) (sym right) ∙ e.1) (ap (λ (j : JudgedThere). list_all is_checked j.reached) (sym right) ∙ listed.0) no_wrong checked in
           ap is_there k.is
 
       by_count : (target : Proc) → as_proc (item_named sp.target.name m.items) ≡ Some target → (b : Bool) → AreGiven behind env (map arg_pair sp.arguments) (map arg_denotation sp.arguments)
@@ -270,8 +288,8 @@ module _ (m : Module) (top : Option (List ℕ)) (s : IsAccepted m top) (loops : 
           let b = none_in unknown spawned.faults a.1 in
           let c = all_in is_checked (reached_of_all given) spawned.reached r in
           let arguments = flat_map (λ (x : Arg). mentioned_in_arg x bound) sp.arguments in
-          let passing = given_reach (Passing m top s) behind (map arg_pair sp.arguments) (arguments_reach (Passing m top s) behind sp.arguments bound (reaching m top s context.owner arguments (arguments_none sp.arguments bound))) in
-          let g = parametric_args_given behind env (well_behind context env made place) (map arg_pair sp.arguments) (map arg_denotation sp.arguments) (each_argument sp.arguments) a.0 (all_sound m top s (reached_of_all given) passing c.0) in
+          let passing = given_reach (Passing m top s) behind (map arg_pair sp.arguments) (arguments_reach (Passing m top s) behind sp.arguments bound (knows.reaching context.owner arguments (arguments_none sp.arguments bound))) in
+          let g = parametric_args_given behind env (well_behind context env made place) (map arg_pair sp.arguments) (map arg_denotation sp.arguments) (each_argument sp.arguments) a.0 (all_sound m top s known knows (reached_of_all given) passing c.0) in
           by_count target (ap as_proc (sym (known_item m top s loops complete typed sp.target.name)) ∙ is) (length sp.ends == length target.config.ends && not (nat_lt (length target.parametrics) (length gs))) g
           (ap (λ o. (spawn_of context made sp gs o).faults) (sym is) ∙ b.1) (ap (λ o. list_all is_checked (spawn_of context made sp gs o).reached) (sym is) ∙ c.1)
 
@@ -293,7 +311,7 @@ module _ (m : Module) (top : Option (List ℕ)) (s : IsAccepted m top) (loops : 
 
     proc_there : IsProcThere known p parametric_args
     proc_there =
-        let parts = parts_well_typed m top s p parametric_args there.checked in
+        let parts = parts_well_typed m top s known knows p parametric_args there.checked in
         let acts = acts_found known p parametric_args in
         let k = acts_there inside own known complete typed (callees m top s loops complete typed) p parametric_args there.own parts.acts.faults (all_here m top s loops complete typed acts.reached parts.passing parts.checked) in
         let start = made_at_start context p.config.ends in
@@ -301,11 +319,11 @@ module _ (m : Module) (top : Option (List ℕ)) (s : IsAccepted m top) (loops : 
         let outer = ends_found context [] p.config.ends in
         let a = none_in outer.faults (made.faults ++ _) parts.config in
         let b = all_in is_checked outer.reached (made.reached ++ []) parts.listed in
-        let named = found_ends (Passing m top s) context [] p.config.ends bound (reaching m top s context.owner (ends_mentions p.config.ends bound) (ends_none p.config.ends bound)) in
+        let named = found_ends (Passing m top s) context [] p.config.ends bound (knows.reaching context.owner (ends_mentions p.config.ends bound) (ends_none p.config.ends bound)) in
         record {
           parametrics = k.parametrics;
           members = k.members;
-          ends = ends_there inside own known complete typed (callees m top s loops complete typed) context env place refl [] p.config.ends a.0 (all_sound m top s outer.reached named b.0);
+          ends = ends_there inside own known complete typed (callees m top s loops complete typed) context env place refl [] p.config.ends a.0 (all_sound m top s known knows outer.reached named b.0);
           statements = statements_there start p.config.config_statements (none_in made.faults _ a.1).0 (all_in is_checked made.reached [] b.1).0;
           state = k.state;
           init = k.init;
@@ -317,23 +335,8 @@ module _ (m : Module) (top : Option (List ℕ)) (s : IsAccepted m top) (loops : 
   abbrev P : List ℕ → Bool
   P = is_checked_item m top
 
-  named_so : (o : Option Definition) (name : List ℕ) → has_instance m top name ≡ true → is_checked_as m top name o ≡ true
-  named_so (Some (d.Function f)) name h = h
-  named_so (Some (d.Proc p)) name h = h
-  named_so (Some (d.Constant c)) name h = refl
-  named_so (Some (d.Alias x)) name h = refl
-  named_so (Some (d.Struct x)) name h = refl
-  named_so (Some (d.Enum x)) name h = refl
-  named_so None name h = refl
-
-  -- the name of an instance that is checked passes
-  instance_named : (is : List Instance) (i : Instance) → IsOneOf i is → list_any (λ (j : Instance). bytes_eq i.name j.name) is ≡ true
-  instance_named [] i one = absurd one
-  instance_named (x ∷ xs) i (inl e) = or_first (bytes_eq i.name x.name) (list_any (λ (j : Instance). bytes_eq i.name j.name) xs) (ap (λ (j : Instance). bytes_eq i.name j.name) (sym e) ∙ itself i.name)
-  instance_named (x ∷ xs) i (inr one) = or_second (bytes_eq i.name x.name) (list_any (λ (j : Instance). bytes_eq i.name j.name) xs) (instance_named xs i one)
-
   passes : (i : Instance) → IsOneOf i (all m top s) → P i.name ≡ true
-  passes i one = named_so (item_named i.name m.items) i.name (instance_named (all m top s) i one)
+  passes i one = checked_named m top i one
 
   all_pass : (is : List Instance) → ((j : Instance) → IsOneOf j is → IsOneOf j (all m top s)) → AllNamed P is
   all_pass [] h = tt

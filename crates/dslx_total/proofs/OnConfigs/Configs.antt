@@ -36,8 +36,8 @@ use Rattle.dslx_core.specs.Lowering.CoreScopes.{CoreScope}
 use Rattle.dslx_core.specs.Networks.Configs.{ProcInstance, lower_channel, lower_child, lower_children, config_scope, lower_made, proc_instance_in, lower_spawn_parametrics}
 use Rattle.dslx_core.specs.Networks.Ends.{end_numbers, numbered_ends}
 use Rattle.dslx_total.proofs.OnFamilies.Acts.{parts_well_typed}
-use Rattle.dslx_total.proofs.OnFamilies.Parametrics.{LoopsHaveNoValue}
-use Rattle.dslx_total.proofs.OnFamilies.Reached.{K, Listed, Passing, all, all_sound, reaching}
+use Rattle.dslx_total.proofs.OnFamilies.Knows.{Knows, all_sound}
+use Rattle.dslx_total.proofs.OnFamilies.Reached.{Listed, Passing, all}
 use Rattle.dslx_total.proofs.OnFamilies.Spawns.{proc_named, spawn_there, well_behind}
 use Rattle.dslx_total.proofs.OnFamilies.There.{IsThere, well}
 use Rattle.dslx_total.specs.Configs.LowersTotally.{ConfigLowers}
@@ -90,14 +90,11 @@ child_there m scope held procs s target parametric_args is given many ends k fou
       ∙ ap (λ b. where_true b (Some (record { instance = k; ends = ends.parametric_args }))) (ap (λ n. n == length target.config.ends) ends.many ∙ many),
 )
 
-module _ (m : Module) (top : Option (List ℕ)) (s : IsAccepted m top) (loops : LoopsHaveNoValue m) (complete : IsComplete (K m top s)) (typed : AreTyped (K m top s)) (written : TypesAreWritten) where
-  abbrev known : GlobalEnv
-  known = K m top s
-
+module _ (m : Module) (top : Option (List ℕ)) (s : IsAccepted m top) (known : GlobalEnv) (knows : Knows m top s known) (complete : IsComplete known) (typed : AreTyped known) (written : TypesAreWritten) where
   abbrev test : Instance → Bool
   test i = is_reached i (all m top s)
 
-  module _ (p : Proc) (parametric_args : List DslxValue) (there : IsThere m top s p parametric_args) where
+  module _ (p : Proc) (parametric_args : List DslxValue) (there : IsThere m top s known p parametric_args) where
     abbrev context : TypeEnv
     context = proc_type_env known p parametric_args
 
@@ -114,7 +111,7 @@ module _ (m : Module) (top : Option (List ℕ)) (s : IsAccepted m top) (loops : 
     bound = parametric_names p.parametrics
 
     sees : IsWellTypedEnv context env
-    sees = well m top s complete typed p parametric_args there
+    sees = well m top s known complete typed p parametric_args there
 
     -- what a `config` makes and spawns becomes something
     record StatementsLower (ms : List ConfigStatement) : Type 0 where
@@ -130,10 +127,10 @@ module _ (m : Module) (top : Option (List ℕ)) (s : IsAccepted m top) (loops : 
         let word = channel_type behind c.word in
         let depth = depth_found behind c.depth in
         let P = Passing m top s in
-        all_sound m top s (word.reached ++ depth.reached)
+        all_sound m top s known knows (word.reached ++ depth.reached)
         (join P word.reached depth.reached
-        (written_type_reaches P c.word bound behind (reaching m top s behind.owner (mentioned_in_type c.word bound) (no_proc_in_type c.word bound)))
-        (depth_reaches P behind c.depth bound (reaching m top s behind.owner (arg_if c.depth bound) (depth_none c.depth bound)))) r
+        (written_type_reaches P c.word bound behind (knows.reaching behind.owner (mentioned_in_type c.word bound) (no_proc_in_type c.word bound)))
+        (depth_reaches P behind c.depth bound (knows.reaching behind.owner (arg_if c.depth bound) (depth_none c.depth bound)))) r
 
     config_statements_become : (made : Made) (ms : List ConfigStatement) → AreNumbered held (made_at_end context made ms).names → (config_statements_found context made ms).faults ≡ []
         → Listed m top s (config_statements_found context made ms).reached → StatementsLower ms
@@ -157,7 +154,7 @@ module _ (m : Module) (top : Option (List ℕ)) (s : IsAccepted m top) (loops : 
         let unknown = unknown_ends made.names sp.ends in
         let spawned = spawn_of context made sp given (as_proc (item_named sp.target.name known.whole.items)) in
         let declared = (none_in unknown spawned.faults (none_in (faults_of_all (given_judgements given)) (unknown ++ spawned.faults) a.0).1).0 in
-        let t = spawn_there m top s loops complete typed p parametric_args sees made sp bound a.0 b.0 in
+        let t = spawn_there m top s known knows complete typed p parametric_args sees made sp bound a.0 b.0 in
         let gives = given_there known p parametric_args none_made sees t.target sp.arguments ∙ t.given in
         let ends = parametric_args_there held made.names (λ name q. named name (stays name context made ms q)) sp.ends declared in
         let rest = config_statements_become made ms named a.1 b.1 in
@@ -183,7 +180,7 @@ module _ (m : Module) (top : Option (List ℕ)) (s : IsAccepted m top) (loops : 
 
     pub config_lowers_to : ConfigLowers m known.items top p parametric_args
     config_lowers_to =
-        let parts = parts_well_typed m top s p parametric_args there.checked in
+        let parts = parts_well_typed m top s known knows p parametric_args there.checked in
         let start = made_at_start context p.config.ends in
         let end = made_at_end context start p.config.config_statements in
         let made = config_statements_found context start p.config.config_statements in

@@ -26,8 +26,8 @@ use Rattle.dslx_core.proofs.Lemmas.Typing.Accepted.{IsAccepted, one_of_these}
 use Rattle.dslx_core.specs.Networks.Configs.{config_scope}
 use Rattle.dslx_core.specs.Networks.Assembly.{lower_outer}
 use Rattle.dslx_total.proofs.OnFamilies.Acts.{parts_well_typed}
-use Rattle.dslx_total.proofs.OnFamilies.Parametrics.{LoopsHaveNoValue}
-use Rattle.dslx_total.proofs.OnFamilies.Reached.{K, Passing, all, all_sound, ends_none, reaching}
+use Rattle.dslx_total.proofs.OnFamilies.Knows.{Knows, all_sound}
+use Rattle.dslx_total.proofs.OnFamilies.Reached.{Passing, all, ends_none}
 use Rattle.dslx_total.proofs.OnFamilies.There.{IsThere, well}
 use Rattle.dslx_total.proofs.OnFamilies.Tops.{top_there}
 use Rattle.dslx_total.specs.Configs.LowersTotally.{TopLowers}
@@ -49,20 +49,17 @@ each_outer written known p parametric_args h before (e ∷ es) f r =
     let first : Outer = record { name = e.name.name; ty = plain_type t.ty; kind = kind_of_end e.direction } in
     (first ∷ others.0, (λ i. and_then (t.is i) (λ u. Some (record { name = e.name.name; ty = plain_type u; kind = kind_of_end e.direction })) ∷ others.1 i))
 
-module _ (m : Module) (top : Option (List ℕ)) (s : IsAccepted m top) (loops : LoopsHaveNoValue m) (complete : IsComplete (K m top s)) (typed : AreTyped (K m top s)) (written : TypesAreWritten) where
-  abbrev known : GlobalEnv
-  known = K m top s
-
+module _ (m : Module) (top : Option (List ℕ)) (s : IsAccepted m top) (known : GlobalEnv) (knows : Knows m top s known) (complete : IsComplete known) (typed : AreTyped known) (written : TypesAreWritten) where
   abbrev test : Instance → Bool
   test i = is_reached i (all m top s)
 
   pub top_lowers_to : (p : Proc) → top_proc m top ≡ Some p → TopLowers m known.items top p
   top_lowers_to p e =
-      let t = top_there m top s loops complete typed p e in
+      let t = top_there m top s known knows complete typed p e in
       let parametric_args = top_parametric_args known.items p in
-      let there : IsThere m top s p parametric_args = record { checked = record { named = t.named; among = one_of_these (record { name = p.name.name; parametric_args = parametric_args }) (all m top s) t.among }; own = t.own } in
+      let there : IsThere m top s known p parametric_args = record { checked = record { named = t.named; among = one_of_these (record { name = p.name.name; parametric_args = parametric_args }) (all m top s) t.among }; own = t.own } in
       let context = proc_type_env known p parametric_args in
-      let parts = parts_well_typed m top s p parametric_args there.checked in
+      let parts = parts_well_typed m top s known knows p parametric_args there.checked in
       let start = made_at_start context p.config.ends in
       let end = made_at_end context start p.config.config_statements in
       let made = config_statements_found context start p.config.config_statements in
@@ -70,8 +67,8 @@ module _ (m : Module) (top : Option (List ℕ)) (s : IsAccepted m top) (loops : 
       let f = (none_in outer.faults (made.faults ++ (unknown_ends end.names p.config.result ++ use_faults context p end)) parts.config).0 in
       let r = (all_in test outer.reached (made.reached ++ []) parts.listed).0 in
       let bound = parametric_names p.parametrics in
-      let named = found_ends (Passing m top s) context [] p.config.ends bound (reaching m top s context.owner (ends_mentions p.config.ends bound) (ends_none p.config.ends bound)) in
-      let os = each_outer written known p parametric_args (well m top s complete typed p parametric_args there) [] p.config.ends f (all_sound m top s outer.reached named r) in
+      let named = found_ends (Passing m top s) context [] p.config.ends bound (knows.reaching context.owner (ends_mentions p.config.ends bound) (ends_none p.config.ends bound)) in
+      let os = each_outer written known p parametric_args (well m top s known complete typed p parametric_args there) [] p.config.ends f (all_sound m top s known knows outer.reached named r) in
       record {
         checked = record { named = t.named; checked = t.among };
         outer = os.0;

@@ -4,7 +4,6 @@ use mathlib.Core.Bool.{true≢false}
 use Rattle.std.proofs.lemmas.List.{length-append}
 use Rattle.xb_span.specs.Spans.{nowhere}
 use Rattle.dslx_tree.specs.declared.item.Definition.{Definition}
-use Rattle.dslx_tree.specs.declared.item.Definition.TheVariants as d
 use Rattle.dslx_tree.specs.declared.item.Module.{Module}
 use Rattle.dslx_tree.specs.declared.process.Proc.{Proc}
 use Rattle.dslx_meaning.specs.Items.{item_named, meanings_of}
@@ -12,10 +11,8 @@ use Rattle.dslx_meaning.specs.Lists.{and_then}
 use Rattle.dslx_meaning.specs.Network.{top_parametric_args, top_proc}
 use Rattle.dslx_meaning.specs.declared.value.DslxValue.{DslxValue}
 use Rattle.dslx_meaning.specs.Rules.TypeEnvs.{Instance, breaks}
-use Rattle.dslx_meaning.specs.Rules.ModuleRules.{faults_of, ident_of, instance_limit, instances_faults, instances_of, items_found, globals_of, not_a_proc, outside_instances, top_faults, top_found}
-use Rattle.dslx_core.specs.Typing.Laws.Recursion.{HasNoCycle}
+use Rattle.dslx_meaning.specs.Rules.ModuleRules.{faults_of, ident_of, instances_faults, instances_of, items_found, globals_of, not_a_proc, outside_instances, top_faults, top_found}
 use Rattle.dslx_core.specs.Typing.TypingRelations.Closed.{ends_within}
-use Rattle.dslx_core.proofs.Lemmas.Typing.TypingRelations.{every_item}
 use Rattle.dslx_core.proofs.Lemmas.Typing.Sound.{none_in, some_fault}
 use Rattle.dslx_core.proofs.Lemmas.Typing.Accepted.{one_of_these, own_faults}
 use Rattle.dslx_core.specs.Lowering.Functions.{CoreInstance}
@@ -43,11 +40,11 @@ longest_chain m name (suc n) e = by_less (ends_within m n name) refl (longest_ch
     by_less false q less = record { number = n; most = e; least = q }
 
 pub procs_have_table : (m : Module) (top : Option (List ℕ)) (functions : List CoreInstance) → ((p : Proc) (parametric_args : List DslxValue) → IsReachedProc m top p parametric_args → NextLowers m functions p parametric_args)
-    → ((p : Proc) (parametric_args : List DslxValue) → IsReachedProc m top p parametric_args → ConfigLowers m (meanings_of m) top p parametric_args) → HasNoCycle m → (p : Proc) → IsReachedProc m top p (top_parametric_args (meanings_of m) p)
+    → ((p : Proc) (parametric_args : List DslxValue) → IsReachedProc m top p parametric_args → ConfigLowers m (meanings_of m) top p parametric_args) → (p : Proc) → ends_within m (length m.items) p.name.name ≡ true → IsReachedProc m top p (top_parametric_args (meanings_of m) p)
     → ProcsHaveTable m top functions p
-procs_have_table m top functions nexts configs free p checked =
+procs_have_table m top functions nexts configs p ends checked =
     let parametric_args = top_parametric_args (meanings_of m) p in
-    let k = longest_chain m p.name.name (length m.items) (every_item m free p.name.name (d.Proc p) checked.named) in
+    let k = longest_chain m p.name.name (length m.items) ends in
     let t = table_of m top functions nexts configs k.number in
     let own = checked_next m top functions nexts configs k.number t.table t.holds p parametric_args checked k.most in
     let order = in_order m top functions nexts configs k.number in
@@ -79,7 +76,7 @@ top_there m top e =
     let known = globals_of m in
     let tops = top_faults m top (top_proc m top) in
     let others = (items_found known m.items).faults ++ (top_found known (top_proc m top)).faults in
-    let outside = (none_in (instance_limit (instances_of m top)) (outside_instances m top).faults (none_in (instance_limit (instances_of m top) ++ (outside_instances m top).faults) (instances_faults known (instances_of m top)) (own_faults m top e)).0).1 in
+    let outside = (none_in (outside_instances m top).faults (instances_faults known (instances_of m top)) (own_faults m top e)).0 in
     by_top top (top_proc m top) refl (none_in tops others outside).0
   where
     by_top : (t : Option (List ℕ)) (o : Option Proc) → top_proc m top ≡ o → top_faults m t o ≡ [] → (p : Proc) × (top_proc m top ≡ Some p)

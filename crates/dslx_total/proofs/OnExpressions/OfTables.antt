@@ -6,7 +6,7 @@ use Rattle.std.specs.Str.{bytes_eq}
 use Rattle.std.specs.List.{list_all}
 use Rattle.std.proofs.lemmas.List.{append-nil, append_assoc}
 use Rattle.std.proofs.lemmas.Slice.Eq.{bytes_eq-Decides}
-use Rattle.std.proofs.Common.{Bool, List, None, Some, [], ap, false, if◌then◌else◌, length, map, not, refl, subst, suc, sym, true, ℕ, ◌&&◌, ◌++◌, ◌||◌, ◌∙◌, ◌∷◌, ◌≡◌}
+use Rattle.std.proofs.Common.{Bool, List, None, Option, Some, [], ap, false, if◌then◌else◌, length, map, not, refl, subst, suc, sym, true, ℕ, ◌&&◌, ◌++◌, ◌||◌, ◌∙◌, ◌∷◌, ◌≡◌}
 use Rattle.dslx_core.proofs.Lemmas.Typing.Typed.{list_parts, none_some, own_bound, same_some}
 use Rattle.dslx_tree.specs.declared.item.Item.{Item}
 use Rattle.dslx_tree.specs.declared.item.Function.{Function}
@@ -21,10 +21,12 @@ use Rattle.dslx_meaning.specs.Rules.TypeRules.{unless_unit}
 use Rattle.dslx_meaning.specs.declared.value.DslxValue.{DslxValue}
 use Rattle.dslx_meaning.specs.Types.{is_unit}
 use Rattle.dslx_meaning.specs.Lists.{and_then, pairwise, where_true}
-use Rattle.dslx_meaning.specs.Items.{all_parametric_args, as_function, inferred_from, item_named, name_of_definition, parametric_args_bound}
-use Rattle.dslx_meaning.specs.Environment.{Given}
+use Rattle.dslx_meaning.specs.Items.{all_parametric_args, as_function, inferred_from, inferred_value, item_named, name_of_definition, parametric_args_bound, put_first, with_number}
+use Rattle.dslx_meaning.specs.Environment.{Given, Meanings}
+use Rattle.dslx_meaning.specs.Inference.{Inferred, inferred_for}
+use Rattle.dslx_tree.specs.declared.item.Parametric.{Parametric}
 use Rattle.dslx_total.specs.Expressions.Instances.{InstanceLowers}
-use Rattle.dslx_total.specs.Expressions.InstanceLists.{AreThere, CanLower, EachReachesThoseBefore, HaveTable, ReachesThese, is_among}
+use Rattle.dslx_total.specs.Expressions.InstanceLists.{AreThere, CanLower, EachReachesThoseBefore, HaveTable, IsAsTyped, ReachesThese, is_among}
 use Rattle.dslx_total.specs.Expressions.Beside.{AreDeclaredFor, CallsAreKnown, ScopeMatchesEnv}
 use Rattle.dslx_total.proofs.OnExpressions.OfInstances.{instance_is_lowered}
 use Rattle.dslx_total.proofs.OnExpressions.Equal.{equal_itself}
@@ -62,6 +64,7 @@ pub record IsInTable (known : GlobalEnv) (i : Instantiated) (c : CoreInstance) :
   pub parametric_args : c.parametric_args ≡ i.parametric_args
   pub function : Function
   pub is : as_function (item_named i.name known.whole.items) ≡ Some function
+  pub types : IsAsTyped known function
   pub lowered : InstanceLowers known function i.parametric_args (Some c.function)
 
 abbrev pub TableHas : GlobalEnv → List Instantiated → List CoreInstance → Type 0
@@ -82,6 +85,7 @@ record FoundThere (known : GlobalEnv) (name : List ℕ) (parametric_args : List 
   is : instance_in name parametric_args n cs ≡ Some found
   function : Function
   named : as_function (item_named name known.whole.items) ≡ Some function
+  types : IsAsTyped known function
   lowered : InstanceLowers known function parametric_args (Some found.1.function)
 
 found_there : (known : GlobalEnv) (name : List ℕ) (parametric_args : List DslxValue) (n : ℕ) (is : List Instantiated) (cs : List CoreInstance) → TableHas known is cs → is_among is (record { name = name; parametric_args = parametric_args }) ≡ true
@@ -105,11 +109,12 @@ found_there known name parametric_args n (i ∷ is) (c ∷ cs) h e =
           is = ap (λ b. if b then Some (n, c) else instance_in name parametric_args (suc n) cs) (same ∙ q);
           function = h.0.function;
           named = ap (λ n. as_function (item_named n known.whole.items)) one ∙ h.0.is;
+          types = h.0.types;
           lowered = subst (λ vs. InstanceLowers known h.0.function vs (Some c.function)) (sym (all_one_number parametric_args i.parametric_args t.1)) h.0.lowered;
         }
     by_test false q r rest =
         let f = rest r in
-        record { found = f.found; is = ap (λ b. if b then Some (n, c) else instance_in name parametric_args (suc n) cs) (same ∙ q) ∙ f.is; function = f.function; named = f.named; lowered = f.lowered }
+        record { found = f.found; is = ap (λ b. if b then Some (n, c) else instance_in name parametric_args (suc n) cs) (same ∙ q) ∙ f.is; function = f.function; named = f.named; types = f.types; lowered = f.lowered }
 
 -- ---- calls
 
@@ -132,27 +137,45 @@ arguments_equal known owner bound (g ∷ fs) (x ∷ us) (t ∷ ts) j u d =
     is_false true e = absurd (true≢false (sym e))
     is_false false e = refl
 
-calls_known : (known : GlobalEnv) → CanLower known → (is : List Instantiated) (cs : List CoreInstance) → TableHas known is cs → (here : Instance → Bool) → AreThere here known is → (parametric_args : List Given)
+-- all parametrics have values, as many as they are
+put_many : (v : DslxValue) (o : Option (List DslxValue)) (vs : List DslxValue) (n : ℕ) → ((ws : List DslxValue) → o ≡ Some ws → length ws ≡ n) → put_first v o ≡ Some vs → length vs ≡ suc n
+put_many v (Some ws) vs n h e = sym (ap length (same_some (v ∷ ws) vs e)) ∙ ap suc (h ws refl)
+put_many v None vs n h e = none_some vs e
+
+args_many : (items : Meanings) (inferred : List Inferred) (so_far : List Given) (ps : List Parametric) (given vs : List DslxValue) → all_parametric_args items inferred so_far ps given ≡ Some vs → length vs ≡ length ps
+args_many items inferred so_far [] [] vs e = sym (ap length (same_some [] vs e))
+args_many items inferred so_far [] (g ∷ given) vs e = none_some vs e
+args_many items inferred so_far (p ∷ ps) (g ∷ given) vs e =
+    put_many g (all_parametric_args items inferred (with_number so_far p g) ps given) vs (length ps) (args_many items inferred (with_number so_far p g) ps given) e
+args_many items inferred so_far (p ∷ ps) [] vs e =
+    by_value (inferred_value (record { items = items; bound = so_far }) p (inferred_for p.name.name inferred)) e (λ v. args_many items inferred (with_number so_far p v) ps [])
+  where
+    by_value : (o : Option DslxValue) → and_then o (λ v. put_first v (all_parametric_args items inferred (with_number so_far p v) ps [])) ≡ Some vs
+        → ((v : DslxValue) (ws : List DslxValue) → all_parametric_args items inferred (with_number so_far p v) ps [] ≡ Some ws → length ws ≡ length ps) → length vs ≡ suc (length ps)
+    by_value None q rest = none_some vs q
+    by_value (Some v) q rest = put_many v (all_parametric_args items inferred (with_number so_far p v) ps []) vs (length ps) (rest v) q
+
+calls_known : (known : GlobalEnv) → (is : List Instantiated) (cs : List CoreInstance) → TableHas known is cs → (here : Instance → Bool) → AreThere here known is → (parametric_args : List Given)
     → CallsAreKnown here known (record { items = known.items; parametric_args = parametric_args; callee = callee_in known.whole known.items cs })
-calls_known known can is cs table here among outer name f given parametric_args types named found own reached fits =
+calls_known known is cs table here among outer name f given parametric_args types named found own reached fits =
     let same = function_named name known.whole.items f named in
     let again = ap (λ n. as_function (item_named n known.whole.items)) same ∙ named in
     let there = subst (λ n. is_among is (record { name = n; parametric_args = parametric_args }) ≡ true) same (among (record { name = f.name.name; parametric_args = parametric_args }) f again own reached) in
-    let typing = can.types name f named in
     let c = found_there known name parametric_args 0 is cs table there in
     let one = same_some c.function f (sym c.named ∙ named) in
+    let typing = subst (IsAsTyped known) one c.types parametric_args (args_many known.items (inferred_from f.arguments types) [] f.parametrics given parametric_args found) in
     let lowered = subst (λ g. InstanceLowers known g parametric_args (Some c.found.1.function)) one c.lowered in
     let function = same_some c.found.1.function lowered.function lowered.is in
     let bound = parametric_args_bound [] f.parametrics parametric_args in
     let equal = arguments_equal known f.name.name bound f.arguments lowered.function.arguments types lowered.arguments lowered.inner
-    (subst (λ (x : Signature). AreDeclaredFor x.arguments types) (typing parametric_args) fits) in
+    (subst (λ (x : Signature). AreDeclaredFor x.arguments types) typing fits) in
     record {
       callee = record { number = c.found.0; result = c.found.1.function.result };
       is = ap (λ o. and_then o (λ f. and_then (all_parametric_args known.items (inferred_from f.arguments types) [] f.parametrics given) (λ parametric_args. and_then (instance_in name parametric_args 0 cs) (callee_of types)))) named
           ∙ ap (λ o. and_then o (λ parametric_args. and_then (instance_in name parametric_args 0 cs) (callee_of types))) found
           ∙ ap (λ o. and_then o (callee_of types)) c.is
           ∙ ap (λ b. where_true b (Some (record { number = c.found.0; result = c.found.1.function.result }))) (ap (λ (l : LoweredFunction). pairwise equal_type l.arguments types) function ∙ equal);
-      result = ap (λ (x : Signature). x.result) (typing parametric_args) ∙ lowered.result ∙ ap (λ (l : LoweredFunction). Some l.result) (sym function);
+      result = ap (λ (x : Signature). x.result) typing ∙ lowered.result ∙ ap (λ (l : LoweredFunction). Some l.result) (sym function);
     }
 
 -- ---- all instances
@@ -167,7 +190,7 @@ next_there known can is cs table i r =
       parametric_args = refl;
       locals = refl;
       sound = r.sound;
-      calls = calls_known known can is cs table r.here r.there bound;
+      calls = calls_known known is cs table r.here r.there bound;
       widths = can.widths;
       constants = λ name v q. (can.typed.constants name v q).declared;
     } in
@@ -177,7 +200,7 @@ next_there known can is cs table i r =
       c,
       ap (λ o. and_then o (λ f. and_then (lower_instance (instance_globals known.whole known.items cs f i.parametric_args) f) (λ l. Some (record { name = i.name; parametric_args = i.parametric_args; function = l })))) r.is
           ∙ ap (λ o. and_then o (λ l. Some (record { name = i.name; parametric_args = i.parametric_args; function = l }))) l.is,
-      record { name = refl; parametric_args = refl; function = r.function; is = r.is; lowered = record { function = l.function; is = refl; arguments = l.arguments; inner = l.inner; result = l.result } },
+      record { name = refl; parametric_args = refl; function = r.function; is = r.is; types = r.types; lowered = record { function = l.function; is = refl; arguments = l.arguments; inner = l.inner; result = l.result } },
     )
 
 -- those behind the ones of a table
@@ -201,4 +224,4 @@ as_many known (i ∷ is) (c ∷ cs) h = ap suc (as_many known is cs h.1)
 pub instances_have_table : (known : GlobalEnv) → CanLower known → (is : List Instantiated) → EachReachesThoseBefore known [] is → HaveTable known is
 instances_have_table known can is r =
     let t = more_there known can [] [] tt is r in
-    record { table = t.0; lowered = t.1; many = as_many known is t.0 t.2; calls = λ here among parametric_args. calls_known known can is t.0 t.2 here among parametric_args }
+    record { table = t.0; lowered = t.1; many = as_many known is t.0 t.2; calls = λ here among parametric_args. calls_known known is t.0 t.2 here among parametric_args }

@@ -1,5 +1,5 @@
 -- Instances of procs of a text without faults: nothing is wrong with what they do outside their `config`.
-use Rattle.std.proofs.Common.{◌*◌, ◌≡◌, ◌&&◌, ◌++◌, ℕ, length, Bool, true, false, List, [], ◌∷◌, map, Option, sym, ap, subst, ◌∙◌}
+use Rattle.std.proofs.Common.{◌≡◌, ◌&&◌, ◌++◌, ℕ, Bool, true, false, List, [], ◌∷◌, map, Option, sym, ap, subst, ◌∙◌}
 use Rattle.std.specs.List.{list_all}
 use Rattle.xb_span.specs.declared.fault.Fault.{Fault}
 use Rattle.xb_span.specs.declared.limit.What.TheVariants as what
@@ -17,13 +17,14 @@ use Rattle.dslx_meaning.specs.Rules.ProcRules.{config_found, count_sites, ends_f
 use Rattle.dslx_core.proofs.Lemmas.Typing.Laws.{and_true}
 use Rattle.dslx_core.specs.Typing.TypingRelations.Closed.{IsOneOf}
 use Rattle.dslx_core.specs.Typing.TypingRelations.Reached.{AllNamed}
-use Rattle.dslx_core.proofs.Lemmas.Typing.TypingRelations.{block_of_text_reaches, found_ends, found_parametrics, join, whole_is, written_type_reaches}
+use Rattle.dslx_core.proofs.Lemmas.Typing.TypingRelations.{block_of_text_reaches, found_ends, found_parametrics, join, written_type_reaches}
 use Rattle.dslx_core.proofs.Lemmas.Typing.Sound.{all_in, none_in}
 use Rattle.dslx_core.proofs.Lemmas.Typing.Depends.{no_proc_in_block, no_proc_in_type, parametrics_none}
 use Rattle.dslx_core.specs.Typing.Complete.HasValue.{IsWellTypedFound}
 use Rattle.dslx_core.specs.Typing.Complete.Acts.{acts_found}
 use Rattle.dslx_core.proofs.Lemmas.Typing.Accepted.{IsAccepted, all_empty, instance_faults}
-use Rattle.dslx_total.proofs.OnFamilies.Reached.{IsProcOf, K, Listed, Passing, all, all_listed, all_sound, ends_none, reaching}
+use Rattle.dslx_total.proofs.OnFamilies.Knows.{Knows, all_sound}
+use Rattle.dslx_total.proofs.OnFamilies.Reached.{IsProcOf, K, Listed, Passing, all, all_listed, ends_none}
 
 -- two lists that pass a test pass it in one
 both_pass : (f : Instance → Bool) (xs ys : List Instance) → list_all f xs ≡ true → list_all f ys ≡ true → list_all f (xs ++ ys) ≡ true
@@ -36,40 +37,43 @@ module _ (m : Module) (top : Option (List ℕ)) (s : IsAccepted m top) where
     pub named : IsProcOf m p
     pub among : IsOneOf (record { name = p.name.name; parametric_args = parametric_args }) (all m top s)
 
-  pub seen_there : (p : Proc) (parametric_args : List DslxValue) → IsProcOf m p → found_of_instance (K m top s) (record { name = p.name.name; parametric_args = parametric_args }) ≡ proc_seen (K m top s) p parametric_args
-  seen_there p parametric_args e = ap (found_of_item (K m top s) parametric_args) ((λ i. item_named p.name.name (whole_is m (2 * length m.items) i).items) ∙ e)
-
-  pub no_faults : (p : Proc) (parametric_args : List DslxValue) → IsChecked p parametric_args → (proc_seen (K m top s) p parametric_args).faults ≡ []
-  no_faults p parametric_args h =
-      ap (λ (x : Found). x.faults) (sym (seen_there p parametric_args h.named)) ∙ instance_faults (K m top s) (record { name = p.name.name; parametric_args = parametric_args }) (all m top s) h.among (all_empty m top s).1
-
-  pub all_checked : (p : Proc) (parametric_args : List DslxValue) → IsChecked p parametric_args → Listed m top s (proc_seen (K m top s) p parametric_args).reached
-  all_checked p parametric_args h =
-      let i : Instance = record { name = p.name.name; parametric_args = parametric_args } in
-      subst (λ (x : Found). Listed m top s x.reached) (seen_there p parametric_args h.named) (all_listed m top s (found_of_instance (K m top s) i).reached (λ j one. s.among i j h.among one))
-
+module _ (m : Module) (top : Option (List ℕ)) (s : IsAccepted m top) (known : GlobalEnv) where
   -- what it breaks and reaches, by parts
   pub record PartsWellTyped (p : Proc) (parametric_args : List DslxValue) : Type 0 where
-    pub members : (ends_found (proc_type_env (K m top s) p parametric_args) [] p.members).faults ≡ []
-    pub config : (config_found (proc_type_env (K m top s) p parametric_args) p).faults ≡ []
-    pub listed : Listed m top s (config_found (proc_type_env (K m top s) p parametric_args) p).reached
-    pub passing : AllNamed (Passing m top s) (acts_found (K m top s) p parametric_args).reached
-    pub checked : Listed m top s (acts_found (K m top s) p parametric_args).reached
-    pub acts : IsWellTypedFound (K m top s) (acts_found (K m top s) p parametric_args)
+    pub members : (ends_found (proc_type_env known p parametric_args) [] p.members).faults ≡ []
+    pub config : (config_found (proc_type_env known p parametric_args) p).faults ≡ []
+    pub listed : Listed m top s (config_found (proc_type_env known p parametric_args) p).reached
+    pub passing : AllNamed (Passing m top s) (acts_found known p parametric_args).reached
+    pub checked : Listed m top s (acts_found known p parametric_args).reached
+    pub acts : IsWellTypedFound known (acts_found known p parametric_args)
 
-  pub parts_well_typed : (p : Proc) (parametric_args : List DslxValue) → IsChecked p parametric_args → PartsWellTyped p parametric_args
+module _ (m : Module) (top : Option (List ℕ)) (s : IsAccepted m top) (known : GlobalEnv) (knows : Knows m top s known) where
+  pub seen_there : (p : Proc) (parametric_args : List DslxValue) → IsProcOf m p → found_of_instance known (record { name = p.name.name; parametric_args = parametric_args }) ≡ proc_seen known p parametric_args
+  seen_there p parametric_args e = ap (found_of_item known parametric_args) ((λ i. item_named p.name.name (knows.text i).items) ∙ e)
+
+  -- as the text's own global environment has it
+  own_seen : (p : Proc) (parametric_args : List DslxValue) → IsChecked m top s p parametric_args → found_of_instance (K m top s) (record { name = p.name.name; parametric_args = parametric_args }) ≡ proc_seen known p parametric_args
+  own_seen p parametric_args h = sym (knows.found (record { name = p.name.name; parametric_args = parametric_args }) h.among) ∙ seen_there p parametric_args h.named
+
+  pub no_faults : (p : Proc) (parametric_args : List DslxValue) → IsChecked m top s p parametric_args → (proc_seen known p parametric_args).faults ≡ []
+  no_faults p parametric_args h =
+      ap (λ (x : Found). x.faults) (sym (own_seen p parametric_args h)) ∙ instance_faults (K m top s) (record { name = p.name.name; parametric_args = parametric_args }) (all m top s) h.among (all_empty m top s).1
+
+  pub all_checked : (p : Proc) (parametric_args : List DslxValue) → IsChecked m top s p parametric_args → Listed m top s (proc_seen known p parametric_args).reached
+  all_checked p parametric_args h =
+      let i : Instance = record { name = p.name.name; parametric_args = parametric_args } in
+      subst (λ (x : Found). Listed m top s x.reached) (own_seen p parametric_args h) (all_listed m top s (found_of_instance (K m top s) i).reached (λ j one. s.among i j h.among one))
+
+  pub parts_well_typed : (p : Proc) (parametric_args : List DslxValue) → IsChecked m top s p parametric_args → PartsWellTyped m top s known p parametric_args
   parts_well_typed p parametric_args h = record {
     members = b.0;
     config = c.0;
     listed = z.0;
     passing = named;
     checked = acted;
-    acts = record { faults = λ i. (a.0 i) ++ ((b.0 i) ++ ((e.0 i) ++ ((f.0 i) ++ ((g.0 i) ++ f.1 i)))); reached = all_sound m top s acts.reached named acted };
+    acts = record { faults = λ i. (a.0 i) ++ ((b.0 i) ++ ((e.0 i) ++ ((f.0 i) ++ ((g.0 i) ++ f.1 i)))); reached = all_sound m top s known knows acts.reached named acted };
   }
     where
-      known : GlobalEnv
-      known = K m top s
-
       test : Instance → Bool
       test i = is_reached i (all m top s)
 
@@ -157,13 +161,13 @@ module _ (m : Module) (top : Option (List ℕ)) (s : IsAccepted m top) where
           let parametric_args_bound = parametric_names p.parametrics in
           let later = p.next.state.name ∷ parametric_args_bound in
           join P parametrics.reached (members.reached ++ (init.reached ++ (state.reached ++ (next.reached ++ []))))
-          (found_parametrics P known p.name.name [] [] p.parametrics parametric_args [] (reaching m top s p.name.name (parametrics_mentions p.parametrics []) (parametrics_none p.parametrics [])))
+          (found_parametrics P known p.name.name [] [] p.parametrics parametric_args [] (knows.reaching p.name.name (parametrics_mentions p.parametrics []) (parametrics_none p.parametrics [])))
           (join P members.reached (init.reached ++ (state.reached ++ (next.reached ++ [])))
-          (found_ends P context [] p.members parametric_args_bound (reaching m top s p.name.name (ends_mentions p.members parametric_args_bound) (ends_none p.members parametric_args_bound)))
+          (found_ends P context [] p.members parametric_args_bound (knows.reaching p.name.name (ends_mentions p.members parametric_args_bound) (ends_none p.members parametric_args_bound)))
           (join P init.reached (state.reached ++ (next.reached ++ []))
-          (block_of_text_reaches P p.init parametric_args_bound false inside (reaching m top s p.name.name (mentioned_in_block p.init parametric_args_bound) (no_proc_in_block p.init parametric_args_bound)))
+          (block_of_text_reaches P p.init parametric_args_bound false inside (knows.reaching p.name.name (mentioned_in_block p.init parametric_args_bound) (no_proc_in_block p.init parametric_args_bound)))
           (join P state.reached (next.reached ++ [])
-          (written_type_reaches P p.next.ty parametric_args_bound context (reaching m top s p.name.name (mentioned_in_type p.next.ty parametric_args_bound) (no_proc_in_type p.next.ty parametric_args_bound)))
+          (written_type_reaches P p.next.ty parametric_args_bound context (knows.reaching p.name.name (mentioned_in_type p.next.ty parametric_args_bound) (no_proc_in_type p.next.ty parametric_args_bound)))
           (join P next.reached []
-          (block_of_text_reaches P p.next.body later true last (reaching m top s p.name.name (mentioned_in_block p.next.body later) (no_proc_in_block p.next.body later)))
+          (block_of_text_reaches P p.next.body later true last (knows.reaching p.name.name (mentioned_in_block p.next.body later) (no_proc_in_block p.next.body later)))
           tt))))

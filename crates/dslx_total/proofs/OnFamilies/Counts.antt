@@ -25,8 +25,8 @@ use Rattle.dslx_core.specs.Typing.Complete.HasValue.{AreTyped}
 use Rattle.dslx_core.proofs.Lemmas.Typing.Complete.{item_env}
 use Rattle.dslx_core.proofs.Lemmas.Typing.Accepted.{IsAccepted, one_instance, one_of_these}
 use Rattle.dslx_total.proofs.OnFamilies.Acts.{parts_well_typed}
-use Rattle.dslx_total.proofs.OnFamilies.Parametrics.{LoopsHaveNoValue}
-use Rattle.dslx_total.proofs.OnFamilies.Reached.{K, Listed, all}
+use Rattle.dslx_total.proofs.OnFamilies.Knows.{Knows}
+use Rattle.dslx_total.proofs.OnFamilies.Reached.{Listed, all}
 use Rattle.dslx_total.proofs.OnFamilies.Spawns.{proc_named, spawn_there}
 use Rattle.dslx_total.proofs.OnFamilies.There.{IsThere, well}
 
@@ -55,16 +55,13 @@ counted_there f i (x ∷ xs) h = by_same (same_instance x i) refl h (counted_the
     by_same false q (inl e) rest = absurd (true≢false (sym (itself i) ∙ ap (λ j. same_instance j i) e ∙ q))
     by_same false q (inr k) rest = rest k
 
-module _ (m : Module) (top : Option (List ℕ)) (s : IsAccepted m top) (loops : LoopsHaveNoValue m) (complete : IsComplete (K m top s)) (typed : AreTyped (K m top s)) where
-  abbrev known : GlobalEnv
-  known = K m top s
-
+module _ (m : Module) (top : Option (List ℕ)) (s : IsAccepted m top) (known : GlobalEnv) (knows : Knows m top s known) (complete : IsComplete known) (typed : AreTyped known) where
   -- whatever such an instance places is as much as is counted of it
   abbrev ScopesCounted : Elaboration → List Counted → Type 0
-  ScopesCounted place counted = (path : List ℕ) (p : Proc) (parametric_args : List DslxValue) (ends : List Held) (number : ℕ) → IsThere m top s p parametric_args
+  ScopesCounted place counted = (path : List ℕ) (p : Proc) (parametric_args : List DslxValue) (ends : List Held) (number : ℕ) → IsThere m top s known p parametric_args
       → size_of_family (place path p parametric_args ends number) ≡ count_in counted (record { name = p.name.name; parametric_args = parametric_args })
 
-  module _ (place : Elaboration) (counted : List Counted) (so : ScopesCounted place counted) (p : Proc) (parametric_args : List DslxValue) (here : IsThere m top s p parametric_args) (path : List ℕ) (held : List Held) where
+  module _ (place : Elaboration) (counted : List Counted) (so : ScopesCounted place counted) (p : Proc) (parametric_args : List DslxValue) (here : IsThere m top s known p parametric_args) (path : List ℕ) (held : List Held) where
     abbrev context : TypeEnv
     context = proc_type_env known p parametric_args
 
@@ -77,7 +74,7 @@ module _ (m : Module) (top : Option (List ℕ)) (s : IsAccepted m top) (loops : 
     one_counted : (own : List ℕ) (made : Made) (sp : Spawn) (number : ℕ) → (spawn_found context made sp).faults ≡ [] → Listed m top s (spawn_found context made sp).reached
         → size_of_family (spawned m known.items place own env held sp number) ≡ spawn_count known.items counted env sp (as_proc (item_named sp.target.name m.items))
     one_counted own made sp number f r =
-        let t = spawn_there m top s loops complete typed p parametric_args (well m top s complete typed p parametric_args here) made sp bound f r in
+        let t = spawn_there m top s known knows complete typed p parametric_args (well m top s known complete typed p parametric_args here) made sp bound f r in
         let named = proc_named m sp.target.name t.target t.is in
         let ends = handed_over t.target.config.ends (channels_of_ends held sp.ends) in
         let elaborated : spawned m known.items place own env held sp number ≡ place own t.target t.parametric_args ends number =
@@ -124,7 +121,7 @@ module _ (m : Module) (top : Option (List ℕ)) (s : IsAccepted m top) (loops : 
       chans = made_chans path env p.config.config_statements ++ (children m known.items place path env held p.config.config_statements 0 number).chans;
     }) ≡ proc_count m known.items counted p parametric_args
     proc_counted number =
-        let parts = parts_well_typed m top s p parametric_args here.checked in
+        let parts = parts_well_typed m top s known knows p parametric_args here.checked in
         let start = made_at_start context p.config.ends in
         let made = config_statements_found context start p.config.config_statements in
         let outer = ends_found context [] p.config.ends in

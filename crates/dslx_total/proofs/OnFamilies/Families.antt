@@ -26,8 +26,8 @@ use Rattle.dslx_total.specs.Texts.WellTypedTexts.{EachProcIsWellTyped, IsWellTyp
 use Rattle.dslx_core.proofs.Lemmas.Typing.Accepted.{IsAccepted, one_of_these}
 use Rattle.dslx_total.specs.Families.EachElaborated.{EachElaborated}
 use Rattle.dslx_total.proofs.OnFamilies.Acts.{parts_well_typed}
-use Rattle.dslx_total.proofs.OnFamilies.Parametrics.{LoopsHaveNoValue}
-use Rattle.dslx_total.proofs.OnFamilies.Reached.{K, Listed, all}
+use Rattle.dslx_total.proofs.OnFamilies.Knows.{Knows}
+use Rattle.dslx_total.proofs.OnFamilies.Reached.{Listed, all}
 use Rattle.dslx_total.proofs.OnFamilies.Spawns.{proc_named, spawn_there}
 use Rattle.dslx_total.proofs.OnFamilies.There.{IsThere, well}
 
@@ -44,25 +44,22 @@ pub each_well_typed : (known : GlobalEnv) (as' : List Elaborated) → EachElabor
 each_well_typed known [] h = tt
 each_well_typed known (a ∷ as') h = (h.0, each_well_typed known as' h.1)
 
-module _ (m : Module) (top : Option (List ℕ)) (s : IsAccepted m top) (loops : LoopsHaveNoValue m) (complete : IsComplete (K m top s)) (typed : AreTyped (K m top s)) (names : NamesHaveWidths (K m top s))
+module _ (m : Module) (top : Option (List ℕ)) (s : IsAccepted m top) (known : GlobalEnv) (knows : Knows m top s known) (complete : IsComplete known) (typed : AreTyped known) (names : NamesHaveWidths known)
     (words : WordsThere) where
-  abbrev known : GlobalEnv
-  known = K m top s
-
-  pub well_typed_proc : (p : Proc) (parametric_args : List DslxValue) → IsThere m top s p parametric_args → IsWellTypedProc known p parametric_args
+  pub well_typed_proc : (p : Proc) (parametric_args : List DslxValue) → IsThere m top s known p parametric_args → IsWellTypedProc known p parametric_args
   well_typed_proc p parametric_args h =
-      let parts = parts_well_typed m top s p parametric_args h.checked in
+      let parts = parts_well_typed m top s known knows p parametric_args h.checked in
       record {
         own = h.own;
         found = parts.acts;
-        words = words (proc_type_env known p parametric_args) (item_env known (parametric_args_bound [] p.parametrics parametric_args)) (well m top s complete typed p parametric_args h) names [] p.members parts.members;
+        words = words (proc_type_env known p parametric_args) (item_env known (parametric_args_bound [] p.parametrics parametric_args)) (well m top s known complete typed p parametric_args h) names [] p.members parts.members;
       }
 
   -- whatever such an instance places
   abbrev ScopesSuch : (Proc → List DslxValue → Type 0) → Elaboration → Type 0
-  ScopesSuch Q place = (path : List ℕ) (p : Proc) (parametric_args : List DslxValue) (ends : List Held) (number : ℕ) → IsThere m top s p parametric_args → EachElaborated Q (place path p parametric_args ends number).procs
+  ScopesSuch Q place = (path : List ℕ) (p : Proc) (parametric_args : List DslxValue) (ends : List Held) (number : ℕ) → IsThere m top s known p parametric_args → EachElaborated Q (place path p parametric_args ends number).procs
 
-  module _ (Q : Proc → List DslxValue → Type 0) (place : Elaboration) (such : ScopesSuch Q place) (p : Proc) (parametric_args : List DslxValue) (here : IsThere m top s p parametric_args) (path : List ℕ) (held : List Held) where
+  module _ (Q : Proc → List DslxValue → Type 0) (place : Elaboration) (such : ScopesSuch Q place) (p : Proc) (parametric_args : List DslxValue) (here : IsThere m top s known p parametric_args) (path : List ℕ) (held : List Held) where
     abbrev context : TypeEnv
     context = proc_type_env known p parametric_args
 
@@ -75,7 +72,7 @@ module _ (m : Module) (top : Option (List ℕ)) (s : IsAccepted m top) (loops : 
     one_spawned : (own : List ℕ) (made : Made) (sp : Spawn) (number : ℕ) → (spawn_found context made sp).faults ≡ [] → Listed m top s (spawn_found context made sp).reached
         → EachElaborated Q (spawned m known.items place own env held sp number).procs
     one_spawned own made sp number f r =
-        let t = spawn_there m top s loops complete typed p parametric_args (well m top s complete typed p parametric_args here) made sp bound f r in
+        let t = spawn_there m top s known knows complete typed p parametric_args (well m top s known complete typed p parametric_args here) made sp bound f r in
         let named = proc_named m sp.target.name t.target t.is in
         let elaborated : spawned m known.items place own env held sp number ≡ place own t.target t.parametric_args (handed_over t.target.config.ends (channels_of_ends held sp.ends)) number =
         (λ i. spawned_at place own held sp number (t.is i) (and_then (t.is i) (λ q. spawn_parametric_args known.items env q sp.arguments))) ∙ ap (spawned_at place own held sp number (Some t.target)) t.given in
@@ -99,12 +96,12 @@ module _ (m : Module) (top : Option (List ℕ)) (s : IsAccepted m top) (loops : 
         (one_spawned (child_path path k) made sp number a.0 b.0) (children_such made ms (suc k) (number + length first.chans) a.1 b.1)
 
   -- by spawns of any number
-  pub all_elaborated : (Q : Proc → List DslxValue → Type 0) → ((p : Proc) (parametric_args : List DslxValue) → IsThere m top s p parametric_args → Q p parametric_args) → (n : ℕ) → ScopesSuch Q (elaborate_within m known.items n)
+  pub all_elaborated : (Q : Proc → List DslxValue → Type 0) → ((p : Proc) (parametric_args : List DslxValue) → IsThere m top s known p parametric_args → Q p parametric_args) → (n : ℕ) → ScopesSuch Q (elaborate_within m known.items n)
   all_elaborated Q each zero path p parametric_args ends number here = tt
   all_elaborated Q each (suc n) path p parametric_args ends number here =
       let context = proc_type_env known p parametric_args in
       let env = item_env known (parametric_args_bound [] p.parametrics parametric_args) in
-      let parts = parts_well_typed m top s p parametric_args here.checked in
+      let parts = parts_well_typed m top s known knows p parametric_args here.checked in
       let start = made_at_start context p.config.ends in
       let made = config_statements_found context start p.config.config_statements in
       let outer = ends_found context [] p.config.ends in

@@ -1,5 +1,5 @@
 -- The `next` of an instance of a proc of a text without faults becomes steps, where its functions are at hand, and its `init` has a value.
-use Rattle.std.proofs.Common.{◌*◌, ◌≡◌, ◌≤◌, ◌&&◌, ◌++◌, ℕ, length, Bool, true, false, List, [], ◌∷◌, map, Option, Some, arith, refl, sym, subst, ◌∙◌}
+use Rattle.std.proofs.Common.{◌≡◌, ◌≤◌, ◌&&◌, ◌++◌, ℕ, Bool, true, false, List, [], ◌∷◌, map, Option, Some, arith, refl, sym, subst, ◌∙◌}
 use Rattle.std.specs.List.{list_all}
 use Rattle.dslx_tree.specs.declared.block.Block.{out-Block}
 use Rattle.dslx_tree.specs.declared.item.Module.{Module}
@@ -20,7 +20,6 @@ use Rattle.dslx_meaning.specs.Rules.NodeRules.{block_pair}
 use Rattle.dslx_meaning.specs.Rules.ProcRules.{ends_found, channel_end_of, proc_type_env}
 use Rattle.dslx_core.proofs.Lemmas.Typing.Laws.{and_true}
 use Rattle.dslx_core.specs.Typing.TypingRelations.Reached.{AllNamed}
-use Rattle.dslx_core.proofs.Lemmas.Typing.TypingRelations.{whole_is}
 use Rattle.dslx_core.proofs.Lemmas.Typing.Sound.{all_in, block_of_text_has, none_in, passed, type_has_den}
 use Rattle.dslx_core.specs.Typing.Typed.Complete.{IsComplete}
 use Rattle.dslx_core.specs.Typing.Typed.Numbers.{AllOwn}
@@ -31,19 +30,19 @@ use Rattle.dslx_core.specs.Typing.Complete.Acts.{acts_found}
 use Rattle.dslx_core.specs.Typing.Complete.HasValue.{AreTyped, IsWellTypedFound}
 use Rattle.dslx_core.proofs.Lemmas.Typing.Complete.{item_env}
 use Rattle.dslx_core.specs.Lowering.CoreScopes.{BodyEnv, CoreScope}
-use Rattle.dslx_core.specs.Lowering.Functions.{callee_in, outer_scope}
+use Rattle.dslx_core.specs.Lowering.Functions.{Instantiated, callee_in, outer_scope}
 use Rattle.dslx_core.specs.Lowering.Steps.{lower_next}
 use Rattle.dslx_total.specs.Expressions.Beside.{NamesAreFull, NamesHaveWidths, ScopeMatchesEnv}
-use Rattle.dslx_total.specs.Expressions.InstanceLists.{AreThere}
+use Rattle.dslx_total.specs.Expressions.InstanceLists.{AreThere, HaveTable}
 use Rattle.dslx_total.specs.Expressions.ExprLowering.{IsClean}
 use Rattle.dslx_total.specs.Expressions.Members.{EachHasWords}
 use Rattle.dslx_total.specs.Expressions.NextSteps.{MembersExist}
 use Rattle.dslx_total.specs.Expressions.Nexts.{NextLowersAsTyped, members_type_env}
-use Rattle.dslx_core.proofs.Lemmas.Typing.Accepted.{IsAccepted, one_of_these, sound}
-use Rattle.dslx_total.specs.Tables.Tables.{FunctionsHaveTable}
+use Rattle.dslx_core.proofs.Lemmas.Typing.Accepted.{IsAccepted, one_of_these}
 use Rattle.dslx_total.specs.Families.EachElaborated.{NextLowers}
 use Rattle.dslx_total.proofs.OnFamilies.Acts.{parts_well_typed}
-use Rattle.dslx_total.proofs.OnFamilies.Reached.{K, Listed, Passing, all, most}
+use Rattle.dslx_total.proofs.OnFamilies.Knows.{Knows}
+use Rattle.dslx_total.proofs.OnFamilies.Reached.{Listed, Passing, all, most}
 use Rattle.dslx_total.proofs.OnFamilies.There.{IsThere, well}
 
 -- the laws of parts of `next`
@@ -60,32 +59,29 @@ NextsLower = (here : Instance → Bool) (known : GlobalEnv) (p : Proc) (parametr
     → IsWellTypedEnv (proc_type_env known p parametric_args) env → ScopeMatchesEnv here (proc_type_env known p parametric_args) (outer_scope core) → MembersExist (members_type_env known p parametric_args) (outer_scope core) p.members
     → IsClean here (acts_found known p parametric_args).faults (acts_found known p parametric_args).reached → NextLowersAsTyped known p parametric_args (lower_next core p)
 
-module _ (m : Module) (top : Option (List ℕ)) (s : IsAccepted m top) where
-  abbrev globals : GlobalEnv
-  globals = K m top s
-
+module _ (known : GlobalEnv) where
   -- the value of `init`
   pub record Opens (p : Proc) (parametric_args : List DslxValue) (t : DslxType) : Type 0 where
     pub value : DslxValue
-    pub is : value_of_block p.init (item_env globals (parametric_args_bound [] p.parametrics parametric_args)) ≡ Some value
+    pub is : value_of_block p.init (item_env known (parametric_args_bound [] p.parametrics parametric_args)) ≡ Some value
     pub of : is_of t value ≡ true
 
-  pub opening_there : (p : Proc) (parametric_args : List DslxValue) → AllOwn globals.items.type_named parametric_args → IsWellTypedEnv (proc_type_env globals p parametric_args) (item_env globals (parametric_args_bound [] p.parametrics parametric_args)) → IsWellTypedFound globals (acts_found globals p parametric_args)
-      → (t : DslxType) → (typing_of_type (proc_type_env globals p parametric_args) p.next.ty).ty ≡ Some t → Opens p parametric_args t
+  pub opening_there : (p : Proc) (parametric_args : List DslxValue) → AllOwn known.items.type_named parametric_args → IsWellTypedEnv (proc_type_env known p parametric_args) (item_env known (parametric_args_bound [] p.parametrics parametric_args)) → IsWellTypedFound known (acts_found known p parametric_args)
+      → (t : DslxType) → (typing_of_type (proc_type_env known p parametric_args) p.next.ty).ty ≡ Some t → Opens p parametric_args t
   opening_there p parametric_args own place acts t is =
-      let context = proc_type_env globals p parametric_args in
-      let env = item_env globals (parametric_args_bound [] p.parametrics parametric_args) in
-      let inside = members_type_env globals p parametric_args in
+      let context = proc_type_env known p parametric_args in
+      let env = item_env known (parametric_args_bound [] p.parametrics parametric_args) in
+      let inside = members_type_env known p parametric_args in
       let state = typing_of_type context p.next.ty in
       let span = (out-Block p.init).span in
       let j = (block_pair p.init).1 false inside in
       let wrong = wanted_faults span state.ty j.ty in
-      let size = size_faults globals span.to (record j { faults = j.faults ++ wrong }) in
+      let size = size_faults known span.to (record j { faults = j.faults ++ wrong }) in
       let init = body_typing false inside state.ty p.init in
-      let parametrics = parametrics_found globals p.name.name [] [] p.parametrics parametric_args in
+      let parametrics = parametrics_found known p.name.name [] [] p.parametrics parametric_args in
       let ends = ends_found context [] p.members in
       let a = none_in init.faults _ (none_in ends.faults (init.faults ++ _) (none_in parametrics.faults (ends.faults ++ (init.faults ++ _)) acts.faults).1).1 in
-      let b = all_in globals.is_sound init.reached _ (all_in globals.is_sound ends.reached (init.reached ++ _) (all_in globals.is_sound parametrics.reached (ends.reached ++ (init.reached ++ _)) acts.reached).1).1 in
+      let b = all_in known.is_sound init.reached _ (all_in known.is_sound ends.reached (init.reached ++ _) (all_in known.is_sound parametrics.reached (ends.reached ++ (init.reached ++ _)) acts.reached).1).1 in
       let c = none_in j.faults wrong (none_in (j.faults ++ wrong) size a.0).0 in
       let within : IsWellTypedEnv inside env = record {
         locals = place.locals;
@@ -104,11 +100,9 @@ module _ (m : Module) (top : Option (List ℕ)) (s : IsAccepted m top) where
       let one = one_of_text (types_at context) t g.0 alike ((type_has_den p.next.ty).means context env place t is).1 g.2.declared in
       record { value = g.2.value; is = g.2.is; of = subst (λ u. is_of u g.2.value ≡ true) (sym one) g.2.of }
 
-module _ (m : Module) (top : Option (List ℕ)) (s : IsAccepted m top) (complete : IsComplete (K m top s)) (typed : AreTyped (K m top s)) (names : NamesHaveWidths (K m top s)) (full : NamesAreFull (K m top s))
-    (widths : WordsHaveWidths) (members : MembersThere) (nexts : NextsLower) (same : (K m top s).items ≡ meanings_of m) (f : FunctionsHaveTable m top) where
-  abbrev known : GlobalEnv
-  known = K m top s
-
+module _ (m : Module) (top : Option (List ℕ)) (s : IsAccepted m top) (known : GlobalEnv) (knows : Knows m top s known) (complete : IsComplete known) (typed : AreTyped known) (names : NamesHaveWidths known) (full : NamesAreFull known)
+    (widths : WordsHaveWidths) (members : MembersThere) (nexts : NextsLower) (same : known.items ≡ meanings_of m) (instances : List Instantiated) (functions : HaveTable known instances)
+    (stand : AreThere (λ i. is_reached i (all m top s)) known instances) where
   -- instances that are checked, and are of no proc
   abbrev here : Instance → Bool
   here j = is_reached j (all m top s) && Passing m top s j.name
@@ -123,25 +117,25 @@ module _ (m : Module) (top : Option (List ℕ)) (s : IsAccepted m top) (complete
   here_sound j h =
       let q = and_true (is_reached j (all m top s)) (Passing m top s j.name) h in
       let enough : most m top s ≤ most m top s = omega arith in
-      sound m top s (most m top s) enough j (one_of_these j (all m top s) q.0) q.1
+      knows.sound (most m top s) enough j (one_of_these j (all m top s) q.0) q.1
 
-  here_there : AreThere here known f.instances
-  here_there i g n own h = f.reached i g n own (and_true (is_reached i (all m top s)) (Passing m top s i.name) h).0
+  here_there : AreThere here known instances
+  here_there i g n own h = stand i g n own (and_true (is_reached i (all m top s)) (Passing m top s i.name) h).0
 
-  pub next_lowers_to : (p : Proc) (parametric_args : List DslxValue) → IsThere m top s p parametric_args → NextLowers m f.known.table p parametric_args
+  pub next_lowers_to : (p : Proc) (parametric_args : List DslxValue) → IsThere m top s known p parametric_args → NextLowers m functions.table p parametric_args
   next_lowers_to p parametric_args there =
       let context = proc_type_env known p parametric_args in
       let bound = parametric_args_bound [] p.parametrics parametric_args in
       let env = item_env known bound in
-      let core : BodyEnv = record { items = known.items; parametric_args = bound; callee = callee_in known.whole known.items f.known.table } in
-      let parts = parts_well_typed m top s p parametric_args there.checked in
-      let elaborated = well m top s complete typed p parametric_args there in
+      let core : BodyEnv = record { items = known.items; parametric_args = bound; callee = callee_in known.whole known.items functions.table } in
+      let parts = parts_well_typed m top s known knows p parametric_args there.checked in
+      let elaborated = well m top s known complete typed p parametric_args there in
       let at : ScopeMatchesEnv here context (outer_scope core) = record {
         items = refl;
         parametric_args = refl;
         locals = refl;
         sound = here_sound;
-        calls = f.known.calls here here_there bound;
+        calls = functions.calls here here_there bound;
         widths = names;
         constants = λ name v q. (typed.constants name v q).declared;
       } in
@@ -149,12 +143,12 @@ module _ (m : Module) (top : Option (List ℕ)) (s : IsAccepted m top) (complete
       let parametrics = parametrics_found known p.name.name [] [] p.parametrics parametric_args in
       let ends = ends_found context [] p.members in
       let listed = (all_in here ends.reached _ (all_in here parametrics.reached (ends.reached ++ _) whole).1).0 in
-      let stand = members here context env (outer_scope core) p.members elaborated at (widths context env elaborated names full [] p.members parts.members) (record { faults = parts.members; reached = listed }) in
-      let next = nexts here known p parametric_args env core there.own elaborated at stand (record { faults = parts.acts.faults; reached = whole }) in
-      let first = opening_there m top s p parametric_args there.own elaborated parts.acts next.next.state next.state in
+      let stands = members here context env (outer_scope core) p.members elaborated at (widths context env elaborated names full [] p.members parts.members) (record { faults = parts.members; reached = listed }) in
+      let next = nexts here known p parametric_args env core there.own elaborated at stands (record { faults = parts.acts.faults; reached = whole }) in
+      let first = opening_there known p parametric_args there.own elaborated parts.acts next.next.state next.state in
       record {
         next = next.next;
-        is = (λ t. lower_next (record { items = sym same t; parametric_args = bound; callee = callee_in (sym (whole_is m (2 * length m.items)) t) (sym same t) f.known.table }) p) ∙ next.is;
+        is = (λ t. lower_next (record { items = sym same t; parametric_args = bound; callee = callee_in (sym knows.text t) (sym same t) functions.table }) p) ∙ next.is;
         opening = first.value;
         opens = (λ t. value_of_block p.init (record { items = sym same t; bound = bound })) ∙ first.is;
         of = first.of;

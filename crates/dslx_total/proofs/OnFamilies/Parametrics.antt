@@ -20,22 +20,22 @@ use Rattle.dslx_meaning.specs.Rules.Mentions.{AsEnum, AsValue, Mention, ends_men
 use Rattle.dslx_meaning.specs.Rules.ModuleRules.{declared_type, default_if, default_known, globals_of, globals_over, globals_within, parametrics_of}
 use Rattle.dslx_meaning.specs.Rules.TypeRules.{unless_unit}
 use Rattle.dslx_meaning.specs.Rules.NodeRules.{expr_pair, type_pair}
-use Rattle.dslx_core.specs.Typing.TypingRelations.Reached.{DeclarationReaches, MentionsReach}
+use Rattle.dslx_core.specs.Typing.TypingRelations.Reached.{DeclarationReaches, IsClosed, MentionsReach}
 use Rattle.dslx_core.proofs.Lemmas.Typing.TypingRelations.{den_reach, own_reached, parametrics_reach, whole_is}
 use Rattle.dslx_core.specs.Typing.Depends.Alike.{DeclaredAlike, NamesAlike, SeesAlike}
-use Rattle.dslx_core.specs.Typing.Depends.Settled.{BindsNoConstant}
-use Rattle.dslx_core.proofs.Lemmas.Typing.Depends.{Stage, Stands, declared_alike, default_is, env_behind, parameter_is, signature_is, stands_next, constant_alike, constant_same, expression_alike, inner_same, all_below, every_item_settles, is_proc_item, item_rank, den_parts, mentions_pass, mentions_settle, not_true, parametrics_none, proc_below, ranked, ranks_settle, settles, settles_closed, settles_next, stage_sight, sees_where, uses_over, written_type_alike}
+use Rattle.dslx_core.proofs.Lemmas.Typing.Depends.{Stage, Stands, declared_alike, default_is, env_behind, of_all, parameter_is, sees_from, signature_is, stands_next, constant_alike, constant_same, expression_alike, inner_same, all_below, every_item_settles, is_proc_item, item_rank, den_parts, mentions_pass, mentions_settle, not_true, parametrics_none, proc_below, ranked, ranks_settle, settles, settles_closed, settles_next, stage_sight, sees_where, uses_over, written_type_alike}
 use Rattle.dslx_core.specs.Typing.Typed.Complete.{EachParametricKnown, IsComplete, IsDefaultKnown, IsWellTypedPart, IsTypeKnown, signature_at}
 use Rattle.dslx_core.specs.Typing.Typed.Numbers.{AreOwn, ParametricsMean, values_behind}
+use Rattle.dslx_core.proofs.Lemmas.Typing.Sound.{none_in, type_has_den}
 use Rattle.dslx_core.proofs.Lemmas.Typing.Typed.{own_more, own_value}
 use Rattle.dslx_core.specs.Typing.Complete.HasValue.{AreTyped}
 use Rattle.dslx_core.proofs.Lemmas.Typing.Complete.{parametric_has_value}
 use Rattle.dslx_total.proofs.OnFamilies.Reached.{IsProcOf, ProcWithin, ends_none, proc_within}
 
 -- the types of the words of ends that are known for instances of a proc are what they are typed to in its text
-abbrev pub EndsAreTyped : GlobalEnv → Proc → Type 0
-EndsAreTyped known p = (parametric_args : List DslxValue) → (signature_at known p.name.name parametric_args).arguments
-    ≡ map (λ (e : End). declared_type (item_type_env known p.name.name (parametric_args_bound [] p.parametrics parametric_args)) e.word) p.config.ends
+pub ends_typed : (known : GlobalEnv) (p : Proc) → item_named p.name.name known.whole.items ≡ Some (d.Proc p) → DeclaredAlike known (globals_over known) p.name.name → (parametric_args : List DslxValue) → length parametric_args ≡ length p.parametrics
+    → (signature_at known p.name.name parametric_args).arguments ≡ map (λ (e : End). declared_type (item_type_env known p.name.name (parametric_args_bound [] p.parametrics parametric_args)) e.word) p.config.ends
+ends_typed known p here alike parametric_args many = ap (λ (x : Signature). x.arguments) (alike.signature (values_behind [] parametric_args) (of_all known p.name.name (d.Proc p) parametric_args here many) ∙ signature_is p.name.name (d.Proc p) parametric_args known here)
 
 -- ---- constants
 
@@ -44,7 +44,7 @@ abbrev pub LoopsHaveNoValue : Module → Type 0
 LoopsHaveNoValue m = (name : List ℕ) → item_reaches m name name ≡ true → (n : ℕ) → (globals_within m n).items.constant name ≡ None
 
 -- a constant has one value by chains of as many items as there are and of one less, whatever binds its name
-module _ (m : Module) (plain : BindsNoConstant m) (loops : LoopsHaveNoValue m) (k : ℕ) (many : length m.items ≡ suc k) where
+module _ (m : Module) (loops : LoopsHaveNoValue m) (k : ℕ) (many : length m.items ≡ suc k) where
   abbrev first : GlobalEnv
   first = globals_within m (2 * k)
 
@@ -58,7 +58,7 @@ module _ (m : Module) (plain : BindsNoConstant m) (loops : LoopsHaveNoValue m) (
   settled =
       let least : 2 * k ≤ 2 * k = omega arith in
       let more : 2 * k ≤ suc (2 * k) = omega arith in
-      ranks_settle m plain k (2 * k) (suc (2 * k)) least more
+      ranks_settle m k (2 * k) (suc (2 * k)) least more
 
   ranks_below : (name : List ℕ) → item_reaches m name name ≡ false → is_of_use AsValue (item_named name m.items) ≡ true → mentions_pass Below m name ≡ true
   ranks_below name free e = settles_next m k name (subst (λ n. settles m n name ≡ true) many (by_item (item_named name m.items) refl e)) free
@@ -78,13 +78,13 @@ module _ (m : Module) (plain : BindsNoConstant m) (loops : LoopsHaveNoValue m) (
       by_loop : (b : Bool) → item_reaches m name name ≡ b → (globals_within m (suc (2 * k))).items.constant name ≡ (globals_within m (suc (suc (2 * k)))).items.constant name
       by_loop true q = loops name q (suc (2 * k)) ∙ sym (loops name q (suc (suc (2 * k))))
       by_loop false q =
-          uses_over Below (mentions_pass Below m) (λ owner. Below) m first second (stage_sight Below m first second (settles_closed m k) settled) (λ owner h. h) plain AsValue name (ranks_below name q)
+          uses_over Below (mentions_pass Below m) (λ owner. Below) m first second (stage_sight Below m first second (settles_closed m k) settled) (λ owner h. h) AsValue name (ranks_below name q)
 
   names_settle : (names : List (List ℕ)) → NamesAlike (globals_within m (suc (2 * k))) (globals_within m (suc (suc (2 * k)))) names
   names_settle [] = tt
   names_settle (n ∷ ns) = (constant_settles n, names_settle ns)
 
--- ---- by one level more
+-- ---- where both have the same of what is mentioned
 
 no_proc_enum : (o : Option Definition) → is_of_use AsEnum o ≡ true → not (is_proc_item o) ≡ true
 no_proc_enum (Some (d.Enum x)) e = refl
@@ -95,26 +95,14 @@ no_proc_enum (Some (d.Alias a)) e = refl
 no_proc_enum (Some (d.Struct x)) e = refl
 no_proc_enum None e = refl
 
-module _ (m : Module) (plain : BindsNoConstant m) (k j : ℕ) (long : 2 * k ≤ j) (owner : List ℕ) (low : (name : List ℕ) → item_reaches m owner name ≡ true → is_proc_item (item_named name m.items) ≡ false → settles m k name ≡ true) where
-  abbrev a : GlobalEnv
-  a = globals_within m j
-
-  abbrev b : GlobalEnv
-  b = globals_within m (suc j)
-
-  abbrev Passing : List ℕ → Bool
-  Passing = settles m k
-
-  there : Stage Passing m a b
-  there = let more : 2 * k ≤ suc j = omega (arith, long) in ranks_settle m plain k j (suc j) long more
-
+module _ (P : List ℕ → Bool) (m : Module) (a b : GlobalEnv) (closed : IsClosed P m) (there : Stage P m a b) (owner : List ℕ)
+    (enums : (name : List ℕ) → item_reaches a.whole owner name ≡ true → is_of_use AsEnum (item_named name m.items) ≡ true → P name ≡ true) where
   abbrev ExprDen : List Mention → Type 0
-  ExprDen ms = list_all Passing (names_mentioned m ms) ≡ true
+  ExprDen ms = list_all P (names_mentioned m ms) ≡ true
 
-  -- the enums that the item reaches stand below
-  sees : (bound : List (List ℕ)) → NamesAlike a b bound → (ms : List Mention) → ExprDen ms → SeesAlike Passing bound owner a b ms
-  sees = sees_where Passing m a b (settles_closed m k) there owner
-      (λ name e q. low name (sym (λ t. item_reaches (there.text t) owner name) ∙ e) (not_true (is_proc_item (item_named name m.items)) (no_proc_enum (item_named name m.items) q)))
+  -- the enums that the item reaches pass
+  sees : (bound : List (List ℕ)) → NamesAlike a b bound → (ms : List Mention) → ExprDen ms → SeesAlike P bound owner a b ms
+  sees = sees_where P m a b closed there owner enums
 
   -- parametrics that are left behind these names, and what they mention
   record LeftAlike (bound : List (List ℕ)) (left : List Parametric) : Type 0 where
@@ -126,41 +114,41 @@ module _ (m : Module) (plain : BindsNoConstant m) (k j : ℕ) (long : 2 * k ≤ 
   left_next bound p ps h = record {
     hidden = (h.others.0, h.hidden);
     others = h.others.1;
-    mentions = (den_parts Passing m (mentioned_in_type p.ty bound ++ expr_if p.default bound) (parametrics_mentions ps (p.name.name ∷ bound)) h.mentions).1;
+    mentions = (den_parts P m (mentioned_in_type p.ty bound ++ expr_if p.default bound) (parametrics_mentions ps (p.name.name ∷ bound)) h.mentions).1;
   }
 
   -- the first one's type and default
   first_den : (bound : List (List ℕ)) (p : Parametric) (ps : List Parametric) → LeftAlike bound (p ∷ ps) → ExprDen (mentioned_in_type p.ty bound) × ExprDen (expr_if p.default bound)
   first_den bound p ps h =
-      den_parts Passing m (mentioned_in_type p.ty bound) (expr_if p.default bound) (den_parts Passing m (mentioned_in_type p.ty bound ++ expr_if p.default bound) (parametrics_mentions ps (p.name.name ∷ bound)) h.mentions).0
+      den_parts P m (mentioned_in_type p.ty bound) (expr_if p.default bound) (den_parts P m (mentioned_in_type p.ty bound ++ expr_if p.default bound) (parametrics_mentions ps (p.name.name ∷ bound)) h.mentions).0
 
   type_alike : (bound : List (List ℕ)) → NamesAlike a b bound → (t : TypeExpr) → ExprDen (mentioned_in_type t bound) → (given : List Given) (unknown : List (List ℕ))
       → typing_of_type (env_behind a owner given unknown) t ≡ typing_of_type (env_behind b owner given unknown) t
-  type_alike bound n t h given unknown = written_type_alike Passing t bound (env_behind a owner given unknown) b (sees bound n (mentioned_in_type t bound) h)
+  type_alike bound n t h given unknown = written_type_alike P t bound (env_behind a owner given unknown) b (sees_from P bound (env_behind a owner given unknown) b (mentioned_in_type t bound) (sees bound n (mentioned_in_type t bound) h))
 
   default_alike : (bound : List (List ℕ)) → NamesAlike a b bound → (o : Option Expr) → ExprDen (expr_if o bound) → (given : List Given) (unknown : List (List ℕ))
       → default_if (env_behind a owner given unknown) o ≡ default_if (env_behind b owner given unknown) o
   default_alike bound n None h given unknown = refl
   default_alike bound n (Some e) h given unknown =
-      let c = constant_same Passing (env_behind a owner given unknown) b (expr_pair e) there.known
-      (constant_alike Passing (expr_pair e) (mentioned e) (expression_alike Passing e) bound (env_behind a owner given unknown) b (sees bound n (mentioned e bound) h)) in
+      let c = constant_same P (env_behind a owner given unknown) b (expr_pair e) there.known
+      (constant_alike P (expr_pair e) (mentioned e) (expression_alike P e) bound (env_behind a owner given unknown) b (sees_from P bound (env_behind a owner given unknown) b (mentioned e bound) (sees bound n (mentioned e bound) h))) in
       λ i. record { judgement = (c i).judgement; value = (c i).value }
 
   ends_alike : (es : List End) (bound : List (List ℕ)) → NamesAlike a b bound → ExprDen (ends_mentions es bound) → (given : List Given) (unknown : List (List ℕ))
       → map (λ (e : End). declared_type (env_behind a owner given unknown) e.word) es ≡ map (λ (e : End). declared_type (env_behind b owner given unknown) e.word) es
   ends_alike [] bound n h given unknown = refl
   ends_alike (e ∷ es) bound n h given unknown =
-      let both = den_parts Passing m (mentioned_in_type e.word bound) (ends_mentions es bound) h in
+      let both = den_parts P m (mentioned_in_type e.word bound) (ends_mentions es bound) h in
       λ i. unless_unit (type_alike bound n e.word both.0 given unknown i).ty ∷ ends_alike es bound n both.1 given unknown i
 
-  -- what a proc declares, at the item and one item further
-  pub proc_alike : (p : Proc) → item_named owner m.items ≡ Some (d.Proc p) → NamesAlike a b (parametric_names p.parametrics) → ExprDen (parametrics_mentions p.parametrics [])
-      → ExprDen (ends_mentions p.config.ends (parametric_names p.parametrics)) → DeclaredAlike b (globals_over b) owner
-  proc_alike p is none ps es =
-      declared_alike a b owner (d.Proc p) (at (whole_is m j)) (at (whole_is m j)) LeftAlike left_next
-      (λ bound q qs h given unknown. inner_same (env_behind a owner given unknown) b (type_pair q.ty) (type_alike bound h.hidden q.ty (first_den bound q qs h).0 given unknown))
-      (λ bound q qs h given unknown. default_alike bound h.hidden q.default (first_den bound q qs h).1 given unknown)
-      (λ given unknown i. record { arguments = ends_alike p.config.ends (parametric_names p.parametrics) none es given unknown i; result = None })
+  -- what a proc declares, by chains of one item more
+  pub proc_declared : (p : Proc) → item_named owner m.items ≡ Some (d.Proc p) → NamesAlike a b (parametric_names p.parametrics) → ExprDen (parametrics_mentions p.parametrics [])
+      → ExprDen (ends_mentions p.config.ends (parametric_names p.parametrics)) → DeclaredAlike (globals_over a) (globals_over b) owner
+  proc_declared p is none ps es =
+      declared_alike a b owner (d.Proc p) (at there.text) (at (sym there.known.whole ∙ there.text)) LeftAlike left_next
+      (λ bound q qs h given unknown w. inner_same (env_behind a owner given unknown) b (type_pair q.ty) (type_alike bound h.hidden q.ty (first_den bound q qs h).0 given unknown))
+      (λ bound q qs h given unknown w. default_alike bound h.hidden q.default (first_den bound q qs h).1 given unknown)
+      (λ given unknown w i. record { arguments = ends_alike p.config.ends (parametric_names p.parametrics) none es given unknown i; result = None })
       (record { hidden = tt; others = none; mentions = ps })
     where
       at : {n : Module} → n ≡ m → item_named owner n.items ≡ Some (d.Proc p)
@@ -176,7 +164,7 @@ one_rank {X = X} m name h f = by_length (length m.items) refl
     by_length zero e = absurd (true≢false (sym h ∙ (λ i. ranked m (e i) name)))
     by_length (suc k) e = f k e
 
-module _ (m : Module) (plain : BindsNoConstant m) (p : Proc) (named : IsProcOf m p) where
+module _ (m : Module) (p : Proc) (named : IsProcOf m p) where
   abbrev rank_at : ℕ → Type 0
   rank_at k = ranked m (suc k) p.name.name ≡ true
 
@@ -198,16 +186,16 @@ module _ (m : Module) (plain : BindsNoConstant m) (p : Proc) (named : IsProcOf m
       let j = suc (2 * k) in
       let level : 2 * length m.items ≡ suc j = omega (arith, e) in
       let less : 2 * k ≤ j = omega arith in
+      let more : 2 * k ≤ suc j = omega arith in
+      let owner = p.name.name in
+      let there = ranks_settle m k j (suc j) less more in
       subst (λ n. DeclaredAlike (globals_within m n) (globals_over (globals_within m n)) p.name.name) (sym level)
-      (proc_alike m plain k j less p.name.name (proc_below m k p named h) p named (names_settle m plain loops k e (parametric_names p.parametrics)) (own_parametrics k h) (own_ends k h)))
+      (proc_declared (settles m k) m (globals_within m j) (globals_within m (suc j)) (settles_closed m k) there owner
+      (λ name e q. proc_below m k p named h name (sym (λ t. item_reaches (there.text t) owner name) ∙ e) (not_true (is_proc_item (item_named name m.items)) (no_proc_enum (item_named name m.items) q))) p named (names_settle m loops k e (parametric_names p.parametrics)) (own_parametrics k h) (own_ends k h)))
 
   -- it has the item in what is known
   pub proc_known : item_named p.name.name (globals_of m).whole.items ≡ Some (d.Proc p)
   proc_known = (λ i. item_named p.name.name (whole_is m (2 * length m.items) i).items) ∙ named
-
-  pub own_ends_alike : LoopsHaveNoValue m → EndsAreTyped (globals_of m) p
-  own_ends_alike loops parametric_args =
-      ap (λ (x : Signature). x.arguments) ((globals_alike loops).signature (values_behind [] parametric_args) ∙ signature_is p.name.name (d.Proc p) parametric_args (globals_of m) proc_known)
 
   -- what their types and defaults reach passes
   pub parametrics_pass : DeclarationReaches (settles m (length m.items)) (globals_of m) p.name.name
@@ -252,6 +240,9 @@ module _ (known : GlobalEnv) (complete : IsComplete known) (typed : AreTyped kno
         record {
           declared = λ t e. (st.means so_far t own (ap (λ (j : Judgement). j.ty) (sym here) ∙ e)).1;
           typed = λ well_typed. subst IsTypeKnown (ap (λ (j : Judgement). j.ty) (sym here)) (st.typed so_far own (subst (IsWellTypedPart known) here well_typed));
+          narrow = λ z t e.
+              (type_has_den p.ty).narrow (item_type_env known owner so_far) (none_in (typing_of_type (item_type_env known owner so_far) p.ty).faults _ (ap (λ (j : Judgement). j.faults) (sym here) ∙ z)).0 t
+              (ap (λ (j : Judgement). j.ty) (sym here) ∙ e);
           default = λ e q well_typed.
               let same = default_at before so_far p ps h e q in
               subst (IsDefaultKnown known.items.type_named) (sym same) (st.default so_far e own (subst (IsWellTypedPart known) (ap (λ (x : DefaultSeen). x.judgement) same) well_typed));

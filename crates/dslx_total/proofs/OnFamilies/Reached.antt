@@ -1,5 +1,5 @@
--- What the parts of a text without faults reach that mention no proc: sound instances.
-use Rattle.std.proofs.Common.{◌*◌, ◌≡◌, ◌≤◌, ◌&&◌, ◌++◌, ℕ, length, Bool, true, List, [], ◌∷◌, Option, Some, arith, inl, inr, refl}
+-- What the parts of a text without faults reach that mention no proc: instances that pass a test of ranks.
+use Rattle.std.proofs.Common.{◌*◌, ◌≡◌, ◌&&◌, ◌++◌, ℕ, length, Bool, true, List, [], ◌∷◌, Option, Some, inl, inr, refl}
 use Rattle.std.specs.List.{list_all}
 use Rattle.dslx_tree.specs.declared.item.Definition.TheVariants as d
 use Rattle.dslx_tree.specs.declared.item.Module.{Module}
@@ -12,12 +12,11 @@ use Rattle.dslx_meaning.specs.Items.{item_named}
 use Rattle.dslx_meaning.specs.Rules.TypeEnvs.{Instance, GlobalEnv}
 use Rattle.dslx_meaning.specs.Rules.Mentions.{Mention, ends_mentions, config_statement_mentions, mentioned_in_arg, mentioned_in_block, mentioned_in_type, names_mentioned, parametric_names, parametrics_mentions, proc_mentions}
 use Rattle.dslx_meaning.specs.Rules.ModuleRules.{instances_of, is_reached, globals_of}
-use Rattle.dslx_core.proofs.Lemmas.Typing.Laws.{and_true}
 use Rattle.dslx_core.specs.Typing.TypingRelations.Closed.{IsOneOf}
-use Rattle.dslx_core.specs.Typing.TypingRelations.Reached.{AllNamed, MentionsReach}
+use Rattle.dslx_core.specs.Typing.TypingRelations.Reached.{MentionsReach}
 use Rattle.dslx_core.proofs.Lemmas.Typing.TypingRelations.{den_reach}
 use Rattle.dslx_core.proofs.Lemmas.Typing.Depends.{NoProcs, den_parts, mentions_settle, no_proc_in_arg, no_proc_in_type, no_procs_join, settles, settles_closed}
-use Rattle.dslx_core.proofs.Lemmas.Typing.Accepted.{IsAccepted, one_of_these, sound}
+use Rattle.dslx_core.proofs.Lemmas.Typing.Accepted.{IsAccepted}
 
 -- a proc of the text, by its name
 abbrev pub IsProcOf : Module → Proc → Type 0
@@ -84,13 +83,6 @@ module _ (m : Module) (top : Option (List ℕ)) (s : IsAccepted m top) where
   pub all_listed : (is : List Instance) → ((j : Instance) → IsOneOf j is → is_reached j all ≡ true) → Listed is
   all_listed [] h = refl
   all_listed (i ∷ is) h = λ t. h i (inl refl) t && all_listed is (λ j one. h j (inr one)) t
-
-  pub all_sound : (is : List Instance) → AllNamed Passing is → Listed is → list_all K.is_sound is ≡ true
-  all_sound [] named h = refl
-  all_sound (i ∷ is) named h =
-      let q = and_true (is_reached i all) (list_all (λ (i : Instance). is_reached i all) is) h in
-      let enough : most ≤ most = omega arith in
-      λ t. sound m top s most enough i (one_of_these i all q.0) named.0 t && all_sound is named.1 q.1 t
 
   -- where no proc is mentioned, what is reached passes
   pub reaching : (owner : List ℕ) (ms : List Mention) → NoProcs ms → MentionsReach Passing K owner ms

@@ -1,6 +1,6 @@
 -- Spawns with which nothing is wrong: their parametric arguments are known and of the types of their parameters, and the instance that
 -- they spawn is checked.
-use Rattle.std.proofs.Common.{◌*◌, ◌≡◌, ◌&&◌, ◌||◌, ◌++◌, ◌==◌, ℕ, length, Bool, true, false, not, if◌then◌else◌, List, [], ◌∷◌, map, Option, Some, None, refl, sym, ap, subst, ◌∙◌}
+use Rattle.std.proofs.Common.{◌≡◌, ◌&&◌, ◌||◌, ◌++◌, ◌==◌, ℕ, length, Bool, true, false, not, if◌then◌else◌, List, [], ◌∷◌, map, Option, Some, None, refl, sym, ap, subst, ◌∙◌}
 use mathlib.Core.Bool.{true≢false}
 use Rattle.std.specs.Prelude.{flat_map, nat_lt}
 use Rattle.std.specs.List.{list_all}
@@ -27,19 +27,20 @@ use Rattle.dslx_meaning.specs.Rules.ModuleRules.{declared_type, is_reached}
 use Rattle.dslx_meaning.specs.Rules.NodeRules.{arg_pair}
 use Rattle.dslx_meaning.specs.Rules.ProcRules.{Made, behind_ends, handed_faults, proc_parametric_args, proc_type_env, right_spawn, spawn_found, spawn_of, unknown_ends}
 use Rattle.dslx_core.proofs.Lemmas.Typing.Laws.{and_true}
-use Rattle.dslx_core.proofs.Lemmas.Typing.TypingRelations.{arguments_reach, given_reach, item_so_named, parametric_args_reach, whole_is}
+use Rattle.dslx_core.proofs.Lemmas.Typing.TypingRelations.{arguments_reach, given_reach, item_so_named, parametric_args_reach}
 use Rattle.dslx_core.specs.Typing.Sound.Sound.{EachExprGives}
 use Rattle.dslx_core.proofs.Lemmas.Typing.Sound.{AreGiven, EachGiven, all_in, argument_gives, typing_right, none_in, not_broken, parametric_args_given, parametric_args_known, some_fault}
-use Rattle.dslx_core.proofs.Lemmas.Typing.Depends.{stands_first}
-use Rattle.dslx_core.specs.Typing.Typed.Complete.{IsComplete}
+use Rattle.dslx_core.proofs.Lemmas.Typing.Depends.{fit_many, stands_first}
+use Rattle.dslx_core.specs.Typing.Typed.Complete.{IsComplete, signature_at}
 use Rattle.dslx_core.specs.Typing.Typed.Numbers.{AllOwn, GivenMean, values_behind}
 use Rattle.dslx_core.specs.Typing.Typed.WellTyped.{IsWellTypedEnv}
 use Rattle.dslx_core.proofs.Lemmas.Typing.Typed.{all_are, parametric_args_found}
 use Rattle.dslx_core.specs.Typing.Complete.HasValue.{AreTyped}
 use Rattle.dslx_core.proofs.Lemmas.Typing.Complete.{item_env, none_own, own_parametric_args}
 use Rattle.dslx_core.proofs.Lemmas.Typing.Accepted.{IsAccepted}
-use Rattle.dslx_total.proofs.OnFamilies.Parametrics.{LoopsHaveNoValue, globals_alike, own_ends_alike, parametrics_known, parametrics_mean, parametrics_pass, proc_known}
-use Rattle.dslx_total.proofs.OnFamilies.Reached.{IsProcOf, K, Listed, Passing, all, all_sound, arguments_none, reaching}
+use Rattle.dslx_total.proofs.OnFamilies.Knows.{Knows, all_sound}
+use Rattle.dslx_total.proofs.OnFamilies.Parametrics.{ends_typed, parametrics_mean}
+use Rattle.dslx_total.proofs.OnFamilies.Reached.{IsProcOf, Listed, Passing, all, arguments_none}
 
 abbrev is_there : {A : Type 0} → Option A → Bool
 is_there None = false
@@ -83,10 +84,7 @@ pub each_argument : (as' : List Arg) → EachExprGives (map (λ (a : ArgPair). a
 each_argument [] = tt
 each_argument (a ∷ as') = (argument_gives a, each_argument as')
 
-module _ (m : Module) (top : Option (List ℕ)) (s : IsAccepted m top) (loops : LoopsHaveNoValue m) (complete : IsComplete (K m top s)) (typed : AreTyped (K m top s)) where
-  abbrev known : GlobalEnv
-  known = K m top s
-
+module _ (m : Module) (top : Option (List ℕ)) (s : IsAccepted m top) (known : GlobalEnv) (knows : Knows m top s known) (complete : IsComplete known) (typed : AreTyped known) where
   abbrev test : Instance → Bool
   test i = is_reached i (all m top s)
 
@@ -95,27 +93,32 @@ module _ (m : Module) (top : Option (List ℕ)) (s : IsAccepted m top) (loops : 
     pub parametric_args : List DslxValue
     pub is : (proc_parametric_args known target gs).values ≡ Some parametric_args
     pub own : AllOwn known.items.type_named parametric_args
+    pub among : test (record { name = target.name.name; parametric_args = parametric_args }) ≡ true
     pub found : all_parametric_args known.items [] [] target.parametrics given ≡ Some parametric_args
     pub shown : (proc_parametric_args known target gs).bound ≡ known_before (values_behind [] parametric_args)
+    pub ends : (signature_at known target.name.name parametric_args).arguments ≡ map (λ (e : End). declared_type (proc_type_env known target parametric_args) e.word) target.config.ends
 
-  pub parametric_args_there : (name : List ℕ) (target : Proc) → as_proc (item_named name m.items) ≡ Some target → IsProcOf m target → (gs : List ParametricArgument) (vs : List DslxValue) → EachGiven known.items.type_named gs → GivenMean gs vs
+  -- where its instance is checked
+  pub parametric_args_there : (target : Proc) → IsProcOf m target → (gs : List ParametricArgument) (vs : List DslxValue) → EachGiven known.items.type_named gs → GivenMean gs vs
       → (proc_parametric_args known target gs).faults ≡ [] → (proc_parametric_args known target gs).declared.faults ≡ [] → Listed m top s (proc_parametric_args known target gs).declared.reached → (proc_parametric_args known target gs).is_wrong ≡ false
-      → ParametricArgsThere target gs vs
-  parametric_args_there name target is named gs vs each mean f j r w =
+      → ((own : List DslxValue) → (proc_parametric_args known target gs).values ≡ Some own → test (record { name = target.name.name; parametric_args = own }) ≡ true) → ParametricArgsThere target gs vs
+  parametric_args_there target named gs vs each mean f j r w checked =
       let owner = target.name.name in
-      let alike = globals_alike m s.plain target named loops in
-      let here = proc_known m s.plain target named in
+      let here : item_named owner known.whole.items ≡ Some (d.Proc target) = (λ t. item_named owner (knows.text t).items) ∙ named in
       let all = stands_first owner (d.Proc target) in
       let seen = proc_parametric_args known target gs in
-      let passing = parametric_args_reach (Passing m top s) known owner [] [] (known_before []) target.parametrics gs (parametrics_pass m s.plain target named) in
-      let k = parametric_args_known known owner [] [] target.parametrics gs (parametrics_known known complete typed owner (d.Proc target) here alike [] [] (none_own known) target.parametrics all) each
-      (record { given = f; declared = j; reached = all_sound m top s seen.declared.reached passing r; right = w }) in
+      let passing = parametric_args_reach (Passing m top s) known owner [] [] (known_before []) target.parametrics gs (knows.passing target named) in
+      let k = parametric_args_known known owner [] [] target.parametrics gs (knows.parametrics target named) each (record { given = f; declared = j; reached = all_sound m top s known knows seen.declared.reached passing r; right = w }) in
+      let among = checked k.parametric_args k.all in
+      let alike = knows.declared target k.parametric_args named among in
       record {
         parametric_args = k.parametric_args;
         is = k.all;
         own = own_parametric_args known owner [] target.parametrics k.parametric_args k.fit;
+        among = among;
         found = parametric_args_found known known.items owner [] [] [] [] target.parametrics gs vs k.parametric_args (parametrics_mean known complete typed owner (d.Proc target) here alike [] [] (none_own known) target.parametrics all) k.fit mean k.all;
         shown = k.shown;
+        ends = ends_typed known target here alike k.parametric_args (fit_many known owner [] target.parametrics k.parametric_args k.fit);
       }
 
   -- what a spawn comes to, behind what was made before: each end fits what it is handed over as
@@ -162,19 +165,17 @@ module _ (m : Module) (top : Option (List ℕ)) (s : IsAccepted m top) (loops : 
         let no_wrong = not_broken n.is_wrong 10 sp.span b.1 in
         let there = typing_right (cyclic sp target) n c.0 no_wrong in
         let listed = all_in test declared.reached (reached_by (is_refused (cyclic sp target) n) target.name.name n.values) r in
-        let named = proc_named m sp.target.name target is in
-        let k = parametric_args_there sp.target.name target is named (gs made sp) g.values g.each g.mean c.1 (ap (λ (j : JudgedThere). j.faults) (sym there) ∙ d.1) (ap (λ (j : JudgedThere). list_all test j.reached) (sym there) ∙ listed.0) no_wrong in
-        let alike = own_ends_alike m s.plain target named loops in
-        let ways = ap (λ (b : Before). (known.signature_in target.name.name b.values).arguments) k.shown ∙ alike k.parametric_args in
-        let i : Instance = record { name = target.name.name; parametric_args = k.parametric_args } in
-        let one = and_true (test i) true ((λ t. list_all test (reached_by (has_broken (sym c.0 t) || sym no_wrong t) target.name.name (sym k.is t))) ∙ listed.1) in
+        let checked : (own : List DslxValue) → n.values ≡ Some own → test (record { name = target.name.name; parametric_args = own }) ≡ true = λ own e.
+        (and_true (test (record { name = target.name.name; parametric_args = own })) true ((λ t. list_all test (reached_by (has_broken (sym c.0 t) || sym no_wrong t) target.name.name (sym e t))) ∙ listed.1)).0 in
+        let k = parametric_args_there target (proc_named m sp.target.name target is) (gs made sp) g.values g.each g.mean c.1 (ap (λ (j : JudgedThere). j.faults) (sym there) ∙ d.1) (ap (λ (j : JudgedThere). list_all test j.reached) (sym there) ∙ listed.0) no_wrong checked in
+        let ways = ap (λ (b : Before). (known.signature_in target.name.name b.values).arguments) k.shown ∙ k.ends in
         record {
           target = target;
           is = is;
           parametric_args = k.parametric_args;
           given = ap (λ os. and_then (all_some os) (all_parametric_args known.items [] [] target.parametrics)) g.are ∙ ap (λ o. and_then o (all_parametric_args known.items [] [] target.parametrics)) (all_are g.values) ∙ k.found;
           own = k.own;
-          among = one.0;
+          among = k.among;
           many = many;
           ends = ends;
           handed = (λ t. if sym no_wrong t then [] else handed_faults made (sym ways t) target.config.ends sp.ends) ∙ a.1;
@@ -190,8 +191,8 @@ module _ (m : Module) (top : Option (List ℕ)) (s : IsAccepted m top) (loops : 
         let b = none_in unknown spawned.faults a.1 in
         let c = all_in test (reached_of_all given) spawned.reached r in
         let arguments = flat_map (λ (x : Arg). mentioned_in_arg x bound) sp.arguments in
-        let passing = given_reach (Passing m top s) (behind_ends context made) (map arg_pair sp.arguments) (arguments_reach (Passing m top s) (behind_ends context made) sp.arguments bound (reaching m top s context.owner arguments (arguments_none sp.arguments bound))) in
-        let g = parametric_args_given (behind_ends context made) env (well_behind context env made well) (map arg_pair sp.arguments) (map arg_denotation sp.arguments) (each_argument sp.arguments) a.0 (all_sound m top s (reached_of_all given) passing c.0) in
+        let passing = given_reach (Passing m top s) (behind_ends context made) (map arg_pair sp.arguments) (arguments_reach (Passing m top s) (behind_ends context made) sp.arguments bound (knows.reaching context.owner arguments (arguments_none sp.arguments bound))) in
+        let g = parametric_args_given (behind_ends context made) env (well_behind context env made well) (map arg_pair sp.arguments) (map arg_denotation sp.arguments) (each_argument sp.arguments) a.0 (all_sound m top s known knows (reached_of_all given) passing c.0) in
         by_proc (as_proc (item_named sp.target.name known.whole.items)) refl b.0 g b.1 c.1
       where
         enough : Proc → Bool
@@ -207,4 +208,4 @@ module _ (m : Module) (top : Option (List ℕ)) (s : IsAccepted m top) (loops : 
             → Listed m top s (spawn_of context made sp (gs made sp) o).reached → SpawnThere made env sp
         by_proc None q ends g f r = some_fault (breaks 1 sp.target.span) [] f
         by_proc (Some target) q ends g f r =
-            by_count target ((λ t. as_proc (item_named sp.target.name (sym (whole_is m (2 * length m.items)) t).items)) ∙ q) (enough target) refl ends g f r
+            by_count target ((λ t. as_proc (item_named sp.target.name (sym knows.text t).items)) ∙ q) (enough target) refl ends g f r

@@ -14,12 +14,8 @@ use Rattle.dslx_core.specs.Typing.Complete.HasValue.{AreTyped}
 use Rattle.dslx_core.proofs.Lemmas.Typing.Complete.{item_env, item_typed, none_own}
 use Rattle.dslx_core.proofs.Lemmas.Typing.Accepted.{IsAccepted}
 use Rattle.dslx_total.proofs.OnFamilies.Acts.{IsChecked}
-use Rattle.dslx_total.proofs.OnFamilies.Reached.{K}
 
-module _ (m : Module) (top : Option (List ℕ)) (s : IsAccepted m top) where
-  abbrev known : GlobalEnv
-  known = K m top s
-
+module _ (m : Module) (top : Option (List ℕ)) (s : IsAccepted m top) (known : GlobalEnv) where
   -- an instance of a proc of the text that is checked, and whose parametric arguments are of their own types
   pub record IsThere (p : Proc) (parametric_args : List DslxValue) : Type 0 where
     pub checked : IsChecked m top s p parametric_args

@@ -11,6 +11,7 @@ use Rattle.dslx_meaning.specs.Network.{as_proc, top_parametric_args, top_proc}
 use Rattle.dslx_meaning.specs.Items.{item_named}
 use Rattle.dslx_meaning.specs.declared.ty.DslxType.{DslxType}
 use Rattle.dslx_meaning.specs.declared.value.DslxValue.{DslxValue}
+use Rattle.dslx_meaning.specs.Rules.ItemRules.{Found}
 use Rattle.dslx_meaning.specs.Rules.CallRules.{Before, JudgedThere, Unknown, and_parametric, parametric_type, default_there, default_value, is_wrong_parametric, typing_there, known_before, parametric_args_seen, of_type, resolved_value, without_default}
 use Rattle.dslx_meaning.specs.Rules.TypeEnvs.{Instance, GlobalEnv, breaks}
 use Rattle.dslx_meaning.specs.Rules.PatternRules.{is_there}
@@ -24,7 +25,7 @@ use Rattle.dslx_core.proofs.Lemmas.Typing.Typed.{none_some, or_false}
 use Rattle.dslx_core.specs.Typing.Complete.HasValue.{AreTyped}
 use Rattle.dslx_core.proofs.Lemmas.Typing.Accepted.{IsAccepted, all_empty, names_apart}
 use Rattle.dslx_total.proofs.OnFamilies.LastProc.{last_named}
-use Rattle.dslx_total.proofs.OnFamilies.Parametrics.{LoopsHaveNoValue}
+use Rattle.dslx_total.proofs.OnFamilies.Knows.{Knows}
 use Rattle.dslx_total.proofs.OnFamilies.Reached.{IsProcOf, K, Listed, all, all_listed}
 use Rattle.dslx_total.proofs.OnFamilies.Spawns.{parametric_args_there, proc_named}
 
@@ -54,24 +55,23 @@ abbrev pub top_instance : Proc → Option (List DslxValue) → List Instance
 top_instance p None = []
 top_instance p (Some vs) = record { name = p.name.name; parametric_args = vs } ∷ []
 
-module _ (m : Module) (top : Option (List ℕ)) (s : IsAccepted m top) (loops : LoopsHaveNoValue m) (complete : IsComplete (K m top s)) (typed : AreTyped (K m top s)) where
-  abbrev known : GlobalEnv
-  known = K m top s
-
+module _ (m : Module) (top : Option (List ℕ)) (s : IsAccepted m top) (known : GlobalEnv) (knows : Knows m top s known) (complete : IsComplete known) (typed : AreTyped known) where
   abbrev test : Instance → Bool
   test i = is_reached i (all m top s)
 
   -- what is found outside instances, by parts
   pub top_right : top_faults m top (top_proc m top) ≡ []
-  top_right = (none_in (top_faults m top (top_proc m top)) ((items_found known m.items).faults ++ (top_found known (top_proc m top)).faults) (all_empty m top s).0).0
+  top_right = (none_in (top_faults m top (top_proc m top)) ((items_found (K m top s) m.items).faults ++ (top_found (K m top s) (top_proc m top)).faults) (all_empty m top s).0).0
 
   pub top_empty : (top_found known (top_proc m top)).faults ≡ []
   top_empty =
       let tops = top_faults m top (top_proc m top) in
-      (none_in (items_found known m.items).faults (top_found known (top_proc m top)).faults (none_in tops ((items_found known m.items).faults ++ (top_found known (top_proc m top)).faults) (all_empty m top s).0).1).1
+      let own = K m top s in
+      ap (λ (x : Found). x.faults) knows.tops
+      ∙ (none_in (items_found own m.items).faults (top_found own (top_proc m top)).faults (none_in tops ((items_found own m.items).faults ++ (top_found own (top_proc m top)).faults) (all_empty m top s).0).1).1
 
   pub top_listed : Listed m top s (top_found known (top_proc m top)).reached
-  top_listed = (all_in test (items_found known m.items).reached (top_found known (top_proc m top)).reached (all_listed m top s (outside_instances m top).reached s.outside)).1
+  top_listed = subst (λ (x : Found). Listed m top s x.reached) (sym knows.tops) (all_in test (items_found (K m top s) m.items).reached (top_found (K m top s) (top_proc m top)).reached (all_listed m top s (outside_instances m top).reached s.outside)).1
 
   pub named_by : (o : Option (List ℕ)) (p : Proc) → top_proc m o ≡ Some p → (name : List ℕ) × (as_proc (item_named name m.items) ≡ Some p)
   named_by (Some name) p e = (name, e)
@@ -103,13 +103,12 @@ module _ (m : Module) (top : Option (List ℕ)) (s : IsAccepted m top) (loops : 
       let there = typing_right [] seen refl right in
       let empty = none_in seen.faults declared.faults ((λ t. (top_found known (sym e t)).faults) ∙ top_empty) in
       let listed = all_in test declared.reached (top_instance p seen.values) ((λ t. list_all test (top_found known (sym e t)).reached) ∙ top_listed) in
-      let k = parametric_args_there m top s loops complete typed by.0 p by.1 named [] [] tt tt empty.0
-      (ap (λ (j : JudgedThere). j.faults) (sym there) ∙ empty.1) (ap (λ (j : JudgedThere). list_all test j.reached) (sym there) ∙ listed.0) right in
+      let checked : (own : List DslxValue) → seen.values ≡ Some own → test (record { name = p.name.name; parametric_args = own }) ≡ true = λ own q.
+      (and_true (test (record { name = p.name.name; parametric_args = own })) true ((λ t. list_all test (top_instance p (sym q t))) ∙ listed.1)).0 in
+      let k = parametric_args_there m top s known knows complete typed p named [] [] tt tt empty.0 (ap (λ (j : JudgedThere). j.faults) (sym there) ∙ empty.1) (ap (λ (j : JudgedThere). list_all test j.reached) (sym there) ∙ listed.0) right checked in
       let same : top_parametric_args known.items p ≡ k.parametric_args = ap (λ o. unwrap_or o []) k.found in
-      let i : Instance = record { name = p.name.name; parametric_args = k.parametric_args } in
-      let one = and_true (test i) true ((λ t. list_all test (top_instance p (sym k.is t))) ∙ listed.1) in
       record {
         named = named;
         own = subst (AllOwn known.items.type_named) (sym same) k.own;
-        among = (λ t. test (record { name = p.name.name; parametric_args = same t })) ∙ one.0;
+        among = (λ t. test (record { name = p.name.name; parametric_args = same t })) ∙ k.among;
       }

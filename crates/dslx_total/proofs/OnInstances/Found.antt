@@ -31,7 +31,7 @@ found_with name parametric_args n (d ∷ before) c e = by (is_instance name para
 
 module _ (m : Module) (items : Meanings) where
   -- what an instance becomes is of its name and its parametric arguments
-  of_its_key : (before : List CoreInstance) (j : Instantiated) (c : CoreInstance) → next_instance m items before j ≡ Some c → (c.name ≡ j.name) × (c.parametric_args ≡ j.parametric_args)
+  pub of_its_key : (before : List CoreInstance) (j : Instantiated) (c : CoreInstance) → next_instance m items before j ≡ Some c → (c.name ≡ j.name) × (c.parametric_args ≡ j.parametric_args)
   of_its_key before j c e =
       let f = from_then (as_function (item_named j.name m.items)) (λ f. and_then (lower_instance (instance_globals m items before f j.parametric_args) f) (λ l. Some (record { name = j.name; parametric_args = j.parametric_args; function = l }))) c e in
       let l = from_then (lower_instance (instance_globals m items before f.0 j.parametric_args) f.0) (λ l. Some (record { name = j.name; parametric_args = j.parametric_args; function = l })) c f.2 in

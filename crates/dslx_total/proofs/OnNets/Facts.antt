@@ -48,8 +48,7 @@ use Rattle.dslx_total.specs.Expressions.Beside.{NamesAreFull, NamesHaveWidths}
 use Rattle.dslx_total.proofs.Lemmas.Expressions.{sized_there}
 use Rattle.dslx_total.proofs.OnFamilies.Acts.{PartsWellTyped, parts_well_typed}
 use Rattle.dslx_total.proofs.OnFamilies.Nexts.{Opens, opening_there}
-use Rattle.dslx_total.proofs.OnFamilies.Parametrics.{LoopsHaveNoValue}
-use Rattle.dslx_total.proofs.OnFamilies.Reached.{K}
+use Rattle.dslx_total.proofs.OnFamilies.Knows.{Knows}
 use Rattle.dslx_total.proofs.OnFamilies.There.{IsThere, well}
 use Rattle.dslx_total.proofs.OnNets.Ends.{EachHasWord, GoesThere}
 use Rattle.dslx_total.proofs.OnNets.Keeps.{MembersHaveChannels, keeps_types}
@@ -121,13 +120,10 @@ sends_fits chans site d chan is way goes = record {
   no_receive = λ e. subst (λ d. GoesThere d chan.kind) (sym way ∙ ap way_of e) goes;
 }
 
-module _ (m : Module) (top : Option (List ℕ)) (s : IsAccepted m top) (loops : LoopsHaveNoValue m) (complete : IsComplete (K m top s)) (typed : AreTyped (K m top s)) (names : NamesHaveWidths (K m top s))
-    (full : NamesAreFull (K m top s)) (chans : List Chan)
-    (nexts : (p : Proc) (parametric_args : List DslxValue) → IsThere m top s p parametric_args → (t : DslxType) → state_type_of (K m top s).items p parametric_args ≡ Some t → IsWellTypedNext (K m top s) p parametric_args t) where
-  abbrev known : GlobalEnv
-  known = K m top s
-
-  pub proc_fits : (a : Elaborated) → MembersStand m top s loops complete typed names full chans a → ProcFits known chans a
+module _ (m : Module) (top : Option (List ℕ)) (s : IsAccepted m top) (known : GlobalEnv) (knows : Knows m top s known) (complete : IsComplete known) (typed : AreTyped known) (names : NamesHaveWidths known)
+    (full : NamesAreFull known) (chans : List Chan)
+    (nexts : (p : Proc) (parametric_args : List DslxValue) → IsThere m top s known p parametric_args → (t : DslxType) → state_type_of known.items p parametric_args ≡ Some t → IsWellTypedNext known p parametric_args t) where
+  pub proc_fits : (a : Elaborated) → MembersStand m top s known knows complete typed names full chans a → ProcFits known chans a
   proc_fits a h = record {
     keeps = keeps_types chans known a t next sized narrow channels;
     opening = subst (λ (u : Ty). IsOfType u (state_of (opening_state known.items p args))) (sym state_is) (subst (λ o. IsOfType (plain_type t) (state_of o)) (sym opens.is) (plain_typed t opens.value opens.of narrow));
@@ -149,11 +145,11 @@ module _ (m : Module) (top : Option (List ℕ)) (s : IsAccepted m top) (loops : 
       env : Env
       env = item_env known (parametric_args_bound [] p.parametrics args)
 
-      there : IsThere m top s p args
+      there : IsThere m top s known p args
       there = h.there
 
-      parts : PartsWellTyped m top s p args
-      parts = parts_well_typed m top s p args there.checked
+      parts : PartsWellTyped m top s known p args
+      parts = parts_well_typed m top s known knows p args there.checked
 
       state : Judgement
       state = typing_of_type context p.next.ty
@@ -198,7 +194,7 @@ module _ (m : Module) (top : Option (List ℕ)) (s : IsAccepted m top) (loops : 
           (all_in known.is_sound state.reached (body.reached ++ []) three.1).0
 
       sees : IsWellTypedEnv context env
-      sees = well m top s complete typed p args there
+      sees = well m top s known complete typed p args there
 
       own : (t : DslxType) × (state.ty ≡ Some t)
       own = (type_has_den p.next.ty).known context env sees (record { faults = rest.0; reached = reached })
@@ -221,13 +217,13 @@ module _ (m : Module) (top : Option (List ℕ)) (s : IsAccepted m top) (loops : 
       state_is : (head_at known.items a).state ≡ plain_type t
       state_is = ap plain_or_unit means.0
 
-      opens : Opens m top s p args t
-      opens = opening_there m top s p args there.own sees parts.acts t own.1
+      opens : Opens known p args t
+      opens = opening_there known p args there.own sees parts.acts t own.1
 
       -- words of members
       channels : MembersHaveChannels chans known a
       channels n word e =
-          let o = member_words context env p.members (members_have_words m top s loops complete typed names full chans p args there) n.member word e in
+          let o = member_words context env p.members (members_have_words m top s known knows complete typed names full chans p args there) n.member word e in
           let st = h.stands n.member o.0 o.1 in
           let same = same_some st.word word (sym st.typed ∙ o.2) in
           (subst IsWordType same st.fits, width_there chans (site_at a n).chan st.chan st.is ∙ ap width_of (st.ty ∙ ap plain_type same))

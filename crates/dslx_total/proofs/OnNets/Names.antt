@@ -33,8 +33,8 @@ use Rattle.dslx_core.specs.Typing.Complete.HasValue.{AreTyped}
 use Rattle.dslx_core.specs.Typing.Typed.Complete.{IsComplete}
 use Rattle.dslx_total.specs.Nets.Slashes.{has_slash}
 use Rattle.dslx_total.proofs.OnFamilies.Acts.{parts_well_typed}
-use Rattle.dslx_total.proofs.OnFamilies.Parametrics.{LoopsHaveNoValue}
-use Rattle.dslx_total.proofs.OnFamilies.Reached.{K, Listed, all}
+use Rattle.dslx_total.proofs.OnFamilies.Knows.{Knows}
+use Rattle.dslx_total.proofs.OnFamilies.Reached.{Listed, all}
 use Rattle.dslx_total.proofs.OnFamilies.Spawns.{proc_named, spawn_there}
 use Rattle.dslx_total.proofs.OnFamilies.There.{IsThere, well}
 use Rattle.dslx_total.proofs.OnNets.Ends.{new_name}
@@ -234,19 +234,16 @@ children_none m items path env held (config_statement.Spawn sp ∷ ms) k number 
     let first = spawned m items (elaborate_within m items 0) (child_path path k) env held sp number in
     λ i. spawned_none m items (child_path path k) env held sp number i ++ children_none m items path env held ms (suc k) (number + length first.chans) i
 
-module _ (m : Module) (top : Option (List ℕ)) (s : IsAccepted m top) (loops : LoopsHaveNoValue m) (complete : IsComplete (K m top s)) (typed : AreTyped (K m top s)) (limit : ℕ) (small : limit < 2 ^ 64) where
-  abbrev known : GlobalEnv
-  known = K m top s
-
+module _ (m : Module) (top : Option (List ℕ)) (s : IsAccepted m top) (known : GlobalEnv) (knows : Knows m top s known) (complete : IsComplete known) (typed : AreTyped known) (limit : ℕ) (small : limit < 2 ^ 64) where
   abbrev test : Instance → Bool
   test i = is_reached i (all m top s)
 
   abbrev ScopesNamed : Elaboration → Type 0
-  ScopesNamed place = (path : List ℕ) (p : Proc) (parametric_args : List DslxValue) (ends : List Held) (number : ℕ) → IsThere m top s p parametric_args → length (place path p parametric_args ends number).procs ≤ limit
+  ScopesNamed place = (path : List ℕ) (p : Proc) (parametric_args : List DslxValue) (ends : List Held) (number : ℕ) → IsThere m top s known p parametric_args → length (place path p parametric_args ends number).procs ≤ limit
       → FamilyNamed path (place path p parametric_args ends number).chans
 
   module _ (place : Elaboration) (such : ScopesNamed place) (some : (path : List ℕ) (p : Proc) (parametric_args : List DslxValue) (ends : List Held) (number : ℕ) → 1 ≤ length (place path p parametric_args ends number).procs)
-      (p : Proc) (parametric_args : List DslxValue) (here : IsThere m top s p parametric_args) (path : List ℕ) (held : List Held) where
+      (p : Proc) (parametric_args : List DslxValue) (here : IsThere m top s known p parametric_args) (path : List ℕ) (held : List Held) where
     abbrev context : TypeEnv
     context = proc_type_env known p parametric_args
 
@@ -263,9 +260,9 @@ module _ (m : Module) (top : Option (List ℕ)) (s : IsAccepted m top) (loops : 
     one_named : (own : List ℕ) (made : Made) (sp : Spawn) (number : ℕ) → (spawn_found context made sp).faults ≡ [] → Listed m top s (spawn_found context made sp).reached
         → SpawnNamed own (spawned m known.items place own env held sp number)
     one_named own made sp number f r =
-        let t = spawn_there m top s loops complete typed p parametric_args (well m top s complete typed p parametric_args here) made sp bound f r in
+        let t = spawn_there m top s known knows complete typed p parametric_args (well m top s known complete typed p parametric_args here) made sp bound f r in
         let named = proc_named m sp.target.name t.target t.is in
-        let there : IsThere m top s t.target t.parametric_args = record { checked = record { named = named; among = one_of_these (record { name = t.target.name.name; parametric_args = t.parametric_args }) (all m top s) t.among }; own = t.own } in
+        let there : IsThere m top s known t.target t.parametric_args = record { checked = record { named = named; among = one_of_these (record { name = t.target.name.name; parametric_args = t.parametric_args }) (all m top s) t.among }; own = t.own } in
         let given = handed_over t.target.config.ends (channels_of_ends held sp.ends) in
         let elaborated : spawned m known.items place own env held sp number ≡ place own t.target t.parametric_args given number =
         (λ i. spawned_at place own held sp number (t.is i) (and_then (t.is i) (λ q. spawn_parametric_args known.items env q sp.arguments))) ∙ ap (spawned_at place own held sp number (Some t.target)) t.given in
@@ -318,7 +315,7 @@ module _ (m : Module) (top : Option (List ℕ)) (s : IsAccepted m top) (loops : 
   pub all_named : (n : ℕ) → ScopesNamed (elaborate_within m known.items n)
   all_named zero path p parametric_args ends number here few = record { each = λ i x e. absurd (cc); own = none_named }
   all_named (suc n) path p parametric_args ends number here few =
-      let parts = parts_well_typed m top s p parametric_args here.checked in
+      let parts = parts_well_typed m top s known knows p parametric_args here.checked in
       let outer = ends_found context [] p.config.ends in
       let made = config_statements_found context start ms in
       let a = none_in made.faults _ (none_in outer.faults (made.faults ++ _) parts.config).1 in

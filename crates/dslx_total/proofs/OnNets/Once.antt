@@ -36,8 +36,8 @@ use Rattle.dslx_core.specs.Typing.Complete.HasValue.{AreTyped}
 use Rattle.dslx_core.specs.Typing.Typed.Complete.{IsComplete}
 use Rattle.dslx_total.proofs.OnConfigs.Held.{stays}
 use Rattle.dslx_total.proofs.OnFamilies.Acts.{parts_well_typed}
-use Rattle.dslx_total.proofs.OnFamilies.Parametrics.{LoopsHaveNoValue}
-use Rattle.dslx_total.proofs.OnFamilies.Reached.{K, Listed, all}
+use Rattle.dslx_total.proofs.OnFamilies.Knows.{Knows}
+use Rattle.dslx_total.proofs.OnFamilies.Reached.{Listed, all}
 use Rattle.dslx_total.proofs.OnFamilies.Spawns.{proc_named, spawn_there}
 use Rattle.dslx_total.proofs.OnFamilies.There.{IsThere, well}
 use Rattle.dslx_total.proofs.OnNets.Handed.{FirstOr, IsFirst, IsLater, Stands, first_or, first_scope, handed_apart, handed_back, handed_go, handed_scope, in_times, members_back, members_go, no_scope, times_behind, times_used}
@@ -160,10 +160,7 @@ outer_apart context number es = record { apart = λ name other x d k l. apart nu
 
 -- ---- families
 
-module _ (m : Module) (top : Option (List ℕ)) (s : IsAccepted m top) (loops : LoopsHaveNoValue m) (complete : IsComplete (K m top s)) (typed : AreTyped (K m top s)) where
-  abbrev known : GlobalEnv
-  known = K m top s
-
+module _ (m : Module) (top : Option (List ℕ)) (s : IsAccepted m top) (known : GlobalEnv) (knows : Knows m top s known) (complete : IsComplete known) (typed : AreTyped known) where
   abbrev test : Instance → Bool
   test i = is_reached i (all m top s)
 
@@ -175,11 +172,11 @@ module _ (m : Module) (top : Option (List ℕ)) (s : IsAccepted m top) (loops : 
   Owned p parametric_args ends low high c d = UsedEnds (end_names p.config.ends) (EndsTyped p parametric_args) ends low high c d
 
   abbrev ScopesOnce : Elaboration → Type 0
-  ScopesOnce place = (path : List ℕ) (p : Proc) (parametric_args : List DslxValue) (ends : List Held) (number : ℕ) → IsThere m top s p parametric_args → IsScope (end_names p.config.ends) (EndsTyped p parametric_args) ends
+  ScopesOnce place = (path : List ℕ) (p : Proc) (parametric_args : List DslxValue) (ends : List Held) (number : ℕ) → IsThere m top s known p parametric_args → IsScope (end_names p.config.ends) (EndsTyped p parametric_args) ends
       → AreApart (EndsTyped p parametric_args) ends number
       → UsedOnce known (place path p parametric_args ends number).procs (Owned p parametric_args ends number (number + length (place path p parametric_args ends number).chans))
 
-  module _ (place : Elaboration) (such : ScopesOnce place) (p : Proc) (parametric_args : List DslxValue) (here : IsThere m top s p parametric_args) (path : List ℕ) (held : List Held) (end : Made)
+  module _ (place : Elaboration) (such : ScopesOnce place) (p : Proc) (parametric_args : List DslxValue) (here : IsThere m top s known p parametric_args) (path : List ℕ) (held : List Held) (end : Made)
       (scope_end : IsScope end.names end.channel_ends held) (highest : ℕ) (apart_end : AreApart end.channel_ends held highest) where
     abbrev context : TypeEnv
     context = proc_type_env known p parametric_args
@@ -212,9 +209,9 @@ module _ (m : Module) (top : Option (List ℕ)) (s : IsAccepted m top) (loops : 
         → (spawn_found context made sp).faults ≡ [] → Listed m top s (spawn_found context made sp).reached
         → UsedOnce known (spawned m known.items place own env held sp number).procs (Used (ident_names sp.ends) number (number + length (spawned m known.items place own env held sp number).chans))
     one_once own made before rest sp number scope is on low once f r =
-        let t = spawn_there m top s loops complete typed p parametric_args (well m top s complete typed p parametric_args here) made sp bound f r in
+        let t = spawn_there m top s known knows complete typed p parametric_args (well m top s known complete typed p parametric_args here) made sp bound f r in
         let named = proc_named m sp.target.name t.target t.is in
-        let there : IsThere m top s t.target t.parametric_args = record { checked = record { named = named; among = one_of_these (record { name = t.target.name.name; parametric_args = t.parametric_args }) (all m top s) t.among }; own = t.own } in
+        let there : IsThere m top s known t.target t.parametric_args = record { checked = record { named = named; among = one_of_these (record { name = t.target.name.name; parametric_args = t.parametric_args }) (all m top s) t.among }; own = t.own } in
         let es = t.target.config.ends in
         let many = (Decides-eqb (length sp.ends) (length es)).0 t.many in
         let go = handed_go (proc_type_env known t.target t.parametric_args) made es sp.ends many t.ends t.handed in
@@ -295,7 +292,7 @@ module _ (m : Module) (top : Option (List ℕ)) (s : IsAccepted m top) (loops : 
   pub all_once : (n : ℕ) → ScopesOnce (elaborate_within m known.items n)
   all_once zero path p parametric_args ends number here scope apart = none_used known (Owned p parametric_args ends number (number + 0))
   all_once (suc n) path p parametric_args ends number here scope apart =
-      let parts = parts_well_typed m top s p parametric_args here.checked in
+      let parts = parts_well_typed m top s known knows p parametric_args here.checked in
       let outer = ends_found context [] p.config.ends in
       let a = none_in made.faults (unknown ++ used) (none_in outer.faults (made.faults ++ (unknown ++ used)) parts.config).1 in
       let u = none_in unknown used a.1 in

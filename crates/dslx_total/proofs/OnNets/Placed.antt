@@ -42,8 +42,8 @@ use Rattle.dslx_core.specs.Typing.Typed.Declared.{IsDeclared}
 use Rattle.dslx_core.specs.Typing.Typed.WellTyped.{IsWellTypedEnv}
 use Rattle.dslx_total.specs.Expressions.Beside.{NamesAreFull, NamesHaveWidths}
 use Rattle.dslx_total.proofs.OnFamilies.Acts.{parts_well_typed}
-use Rattle.dslx_total.proofs.OnFamilies.Parametrics.{LoopsHaveNoValue}
-use Rattle.dslx_total.proofs.OnFamilies.Reached.{K, Listed, Passing, all, all_sound, ends_none, reaching}
+use Rattle.dslx_total.proofs.OnFamilies.Knows.{Knows, all_sound}
+use Rattle.dslx_total.proofs.OnFamilies.Reached.{Listed, Passing, all, ends_none}
 use Rattle.dslx_total.proofs.OnFamilies.Spawns.{proc_named, spawn_there, well_behind}
 use Rattle.dslx_total.proofs.OnFamilies.There.{IsThere, well}
 use Rattle.dslx_total.proofs.OnNets.Ends.{EachHasWord, EndStands, EndsStand, GoesThere, each_has_word, first_stands, given_ends_stand, made_stands, members_stand, none_stand}
@@ -120,17 +120,14 @@ outer_stand known chans context env same number (e ∷ es) words h =
     })
     (outer_stand known chans context env same (suc number) es words.1 (stand_tail chans number (outer_chan env e) (map (outer_chan env) es) h))
 
-module _ (m : Module) (top : Option (List ℕ)) (s : IsAccepted m top) (loops : LoopsHaveNoValue m) (complete : IsComplete (K m top s)) (typed : AreTyped (K m top s)) (names : NamesHaveWidths (K m top s))
-    (full : NamesAreFull (K m top s)) (chans : List Chan) where
-  abbrev known : GlobalEnv
-  known = K m top s
-
+module _ (m : Module) (top : Option (List ℕ)) (s : IsAccepted m top) (known : GlobalEnv) (knows : Knows m top s known) (complete : IsComplete known) (typed : AreTyped known) (names : NamesHaveWidths known)
+    (full : NamesAreFull known) (chans : List Chan) where
   abbrev test : Instance → Bool
   test i = is_reached i (all m top s)
 
   -- the members of a proc of the network
   pub record MembersStand (a : Elaborated) : Type 0 where
-    pub there : IsThere m top s a.proc a.parametric_args
+    pub there : IsThere m top s known a.proc a.parametric_args
     pub stands : (name : List ℕ) (o : ChannelEnd) → channel_end_in name (map (channel_end_of (proc_type_env known a.proc a.parametric_args)) a.proc.members) ≡ Some o
         → EndStands known chans (unwrap_or (beside name (map (λ (e : End). e.name.name) a.proc.members) a.channels) 0) o
 
@@ -143,33 +140,33 @@ module _ (m : Module) (top : Option (List ℕ)) (s : IsAccepted m top) (loops : 
     pub each_chan : EachHas ChanFits f.chans
 
   abbrev ScopesStand : Elaboration → Type 0
-  ScopesStand place = (path : List ℕ) (p : Proc) (parametric_args : List DslxValue) (ends : List Held) (number : ℕ) → IsThere m top s p parametric_args → EndsOf p parametric_args ends
+  ScopesStand place = (path : List ℕ) (p : Proc) (parametric_args : List DslxValue) (ends : List Held) (number : ℕ) → IsThere m top s known p parametric_args → EndsOf p parametric_args ends
       → StandFrom chans number (place path p parametric_args ends number).chans → FamilyStands (place path p parametric_args ends number)
 
   -- the ends of the `config` of an instance that is checked have words
-  pub ends_have_words : (p : Proc) (parametric_args : List DslxValue) → IsThere m top s p parametric_args → EachHasWord (proc_type_env known p parametric_args) (item_env known (parametric_args_bound [] p.parametrics parametric_args)) p.config.ends
+  pub ends_have_words : (p : Proc) (parametric_args : List DslxValue) → IsThere m top s known p parametric_args → EachHasWord (proc_type_env known p parametric_args) (item_env known (parametric_args_bound [] p.parametrics parametric_args)) p.config.ends
   ends_have_words p parametric_args here =
       let context = proc_type_env known p parametric_args in
-      let parts = parts_well_typed m top s p parametric_args here.checked in
+      let parts = parts_well_typed m top s known knows p parametric_args here.checked in
       let made = config_statements_found context (made_at_start context p.config.ends) p.config.config_statements in
       let outer = ends_found context [] p.config.ends in
       let bound = parametric_names p.parametrics in
       let f = (none_in outer.faults (made.faults ++ _) parts.config).0 in
       let r = (all_in test outer.reached (made.reached ++ []) parts.listed).0 in
-      let named = found_ends (Passing m top s) context [] p.config.ends bound (reaching m top s context.owner (ends_mentions p.config.ends bound) (ends_none p.config.ends bound)) in
-      each_has_word context (item_env known (parametric_args_bound [] p.parametrics parametric_args)) (well m top s complete typed p parametric_args here) names full [] p.config.ends f (all_sound m top s outer.reached named r)
+      let named = found_ends (Passing m top s) context [] p.config.ends bound (knows.reaching context.owner (ends_mentions p.config.ends bound) (ends_none p.config.ends bound)) in
+      each_has_word context (item_env known (parametric_args_bound [] p.parametrics parametric_args)) (well m top s known complete typed p parametric_args here) names full [] p.config.ends f (all_sound m top s known knows outer.reached named r)
 
   -- so have its members
-  pub members_have_words : (p : Proc) (parametric_args : List DslxValue) → IsThere m top s p parametric_args → EachHasWord (proc_type_env known p parametric_args) (item_env known (parametric_args_bound [] p.parametrics parametric_args)) p.members
+  pub members_have_words : (p : Proc) (parametric_args : List DslxValue) → IsThere m top s known p parametric_args → EachHasWord (proc_type_env known p parametric_args) (item_env known (parametric_args_bound [] p.parametrics parametric_args)) p.members
   members_have_words p parametric_args here =
       let context = proc_type_env known p parametric_args in
-      let parts = parts_well_typed m top s p parametric_args here.checked in
+      let parts = parts_well_typed m top s known knows p parametric_args here.checked in
       let parametrics = parametrics_found known p.name.name [] [] p.parametrics parametric_args in
       let members = ends_found context [] p.members in
       let r = (all_in known.is_sound members.reached _ (all_in known.is_sound parametrics.reached (members.reached ++ _) parts.acts.reached).1).0 in
-      each_has_word context (item_env known (parametric_args_bound [] p.parametrics parametric_args)) (well m top s complete typed p parametric_args here) names full [] p.members parts.members r
+      each_has_word context (item_env known (parametric_args_bound [] p.parametrics parametric_args)) (well m top s known complete typed p parametric_args here) names full [] p.members parts.members r
 
-  module _ (place : Elaboration) (such : ScopesStand place) (p : Proc) (parametric_args : List DslxValue) (here : IsThere m top s p parametric_args) (path : List ℕ) (held : List Held) where
+  module _ (place : Elaboration) (such : ScopesStand place) (p : Proc) (parametric_args : List DslxValue) (here : IsThere m top s known p parametric_args) (path : List ℕ) (held : List Held) where
     abbrev context : TypeEnv
     context = proc_type_env known p parametric_args
 
@@ -180,15 +177,15 @@ module _ (m : Module) (top : Option (List ℕ)) (s : IsAccepted m top) (loops : 
     bound = parametric_names p.parametrics
 
     sees : IsWellTypedEnv context env
-    sees = well m top s complete typed p parametric_args here
+    sees = well m top s known complete typed p parametric_args here
 
     one_stands : (own : List ℕ) (made : Made) (before rest : List Held) (sp : Spawn) (number : ℕ) → EndsStand known chans made.names made.channel_ends before → held ≡ before ++ rest
         → (spawn_found context made sp).faults ≡ [] → Listed m top s (spawn_found context made sp).reached
         → StandFrom chans number (spawned m known.items place own env held sp number).chans → FamilyStands (spawned m known.items place own env held sp number)
     one_stands own made before rest sp number h is f r stand =
-        let t = spawn_there m top s loops complete typed p parametric_args sees made sp bound f r in
+        let t = spawn_there m top s known knows complete typed p parametric_args sees made sp bound f r in
         let named = proc_named m sp.target.name t.target t.is in
-        let there : IsThere m top s t.target t.parametric_args = record { checked = record { named = named; among = one_of_these (record { name = t.target.name.name; parametric_args = t.parametric_args }) (all m top s) t.among }; own = t.own } in
+        let there : IsThere m top s known t.target t.parametric_args = record { checked = record { named = named; among = one_of_these (record { name = t.target.name.name; parametric_args = t.parametric_args }) (all m top s) t.among }; own = t.own } in
         let so_far = parametric_args_bound [] t.target.parametrics t.parametric_args in
         let words = ends_have_words t.target t.parametric_args there in
         let many = (Decides-eqb (length sp.ends) (length t.target.config.ends)).0 t.many in
@@ -224,7 +221,7 @@ module _ (m : Module) (top : Option (List ℕ)) (s : IsAccepted m top) (loops : 
         let strings = string_faults made.strings c.name in
         let a = none_in ((sender ++ receiver) ++ strings) (word.faults ++ depth.faults) f in
         let b = none_in_three sender receiver strings a.0 in
-        let reached = all_sound m top s word.reached (written_type_reaches (Passing m top s) c.word bound behind (reaching m top s behind.owner (mentioned_in_type c.word bound) (no_proc_in_type c.word bound))) (all_in test word.reached depth.reached r).0 in
+        let reached = all_sound m top s known knows word.reached (written_type_reaches (Passing m top s) c.word bound behind (knows.reaching behind.owner (mentioned_in_type c.word bound) (no_proc_in_type c.word bound))) (all_in test word.reached depth.reached r).0 in
         let w = word_is behind env (well_behind context env made sees) names full c.word (none_in word.faults depth.faults a.1).0 reached in
         record { fits = record { word = w.word; ty = ap plain_or_unit w.means; fits = w.fits }; ends = made_stands known chans context env path refl made before c number h w b.0 b.1 at }
 
@@ -263,7 +260,7 @@ module _ (m : Module) (top : Option (List ℕ)) (s : IsAccepted m top) (loops : 
   all_stand (suc n) path p parametric_args ends number here h stand =
       let context = proc_type_env known p parametric_args in
       let env = item_env known (parametric_args_bound [] p.parametrics parametric_args) in
-      let parts = parts_well_typed m top s p parametric_args here.checked in
+      let parts = parts_well_typed m top s known knows p parametric_args here.checked in
       let start = made_at_start context p.config.ends in
       let end = made_at_end context start p.config.config_statements in
       let made = config_statements_found context start p.config.config_statements in

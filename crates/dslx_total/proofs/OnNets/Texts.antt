@@ -35,8 +35,8 @@ use Rattle.dslx_core.specs.Typing.Typed.Complete.{IsComplete}
 use Rattle.dslx_total.specs.Expressions.Beside.{NamesAreFull, NamesHaveWidths}
 use Rattle.dslx_total.specs.Nets.Slashes.{has_slash}
 use Rattle.dslx_total.proofs.OnFamilies.Acts.{parts_well_typed}
-use Rattle.dslx_total.proofs.OnFamilies.Parametrics.{LoopsHaveNoValue}
-use Rattle.dslx_total.proofs.OnFamilies.Reached.{K, all}
+use Rattle.dslx_total.proofs.OnFamilies.Knows.{Knows}
+use Rattle.dslx_total.proofs.OnFamilies.Reached.{all}
 use Rattle.dslx_total.proofs.OnFamilies.There.{IsThere}
 use Rattle.dslx_total.proofs.OnFamilies.Tops.{top_there}
 use Rattle.dslx_total.proofs.OnNets.Facts.{ProcFits, SiteFits, each_at, map_there, proc_fits}
@@ -69,13 +69,10 @@ each_so : {X : Type 0} (P Q : X → Type 0) → ((x : X) → P x → Q x) → (x
 each_so P Q f [] h = tt
 each_so P Q f (x ∷ xs) h = (f x h.0, each_so P Q f xs h.1)
 
-module _ (m : Module) (top : Option (List ℕ)) (s : IsAccepted m top) (loops : LoopsHaveNoValue m) (complete : IsComplete (K m top s)) (typed : AreTyped (K m top s)) (names : NamesHaveWidths (K m top s))
-    (full : NamesAreFull (K m top s))
-    (nexts : (p : Proc) (parametric_args : List DslxValue) → IsThere m top s p parametric_args → (t : DslxType) → state_type_of (K m top s).items p parametric_args ≡ Some t → IsWellTypedNext (K m top s) p parametric_args t)
+module _ (m : Module) (top : Option (List ℕ)) (s : IsAccepted m top) (known : GlobalEnv) (knows : Knows m top s known) (complete : IsComplete known) (typed : AreTyped known) (names : NamesHaveWidths known)
+    (full : NamesAreFull known)
+    (nexts : (p : Proc) (parametric_args : List DslxValue) → IsThere m top s known p parametric_args → (t : DslxType) → state_type_of known.items p parametric_args ≡ Some t → IsWellTypedNext known p parametric_args t)
     (p : Proc) (is_top : top_proc m top ≡ Some p) where
-  abbrev known : GlobalEnv
-  known = K m top s
-
   abbrev parametric_args : List DslxValue
   parametric_args = top_parametric_args known.items p
 
@@ -88,9 +85,9 @@ module _ (m : Module) (top : Option (List ℕ)) (s : IsAccepted m top) (loops : 
   abbrev chans : List Chan
   chans = chans_over m known.items p
 
-  pub there : IsThere m top s p parametric_args
+  pub there : IsThere m top s known p parametric_args
   there =
-      let t = top_there m top s loops complete typed p is_top in
+      let t = top_there m top s known knows complete typed p is_top in
       record { checked = record { named = t.named; among = one_of_these (record { name = p.name.name; parametric_args = parametric_args }) (all m top s) t.among }; own = t.own }
 
   whole : StandFrom chans 0 chans
@@ -101,22 +98,22 @@ module _ (m : Module) (top : Option (List ℕ)) (s : IsAccepted m top) (loops : 
       let many : 0 + length outers ≡ length p.config.ends = let q = length-map p.config.ends (outer_chan (item_env known (parametric_args_bound [] p.parametrics parametric_args))) in omega (arith, q) in
       subst (λ k. StandFrom chans k family.chans) many (stand_second chans 0 outers family.chans whole)
 
-  ends_stand : EndsOf m top s loops complete typed names full chans p parametric_args (outer_ends 0 p.config.ends)
+  ends_stand : EndsOf m top s known knows complete typed names full chans p parametric_args (outer_ends 0 p.config.ends)
   ends_stand =
       outer_stand known chans (proc_type_env known p parametric_args) (item_env known (parametric_args_bound [] p.parametrics parametric_args)) refl 0 p.config.ends
-      (ends_have_words m top s loops complete typed names full chans p parametric_args there) (stand_first chans 0 outers family.chans whole)
+      (ends_have_words m top s known knows complete typed names full chans p parametric_args there) (stand_first chans 0 outers family.chans whole)
 
-  family_stands : FamilyStands m top s loops complete typed names full chans family
-  family_stands = all_stand m top s loops complete typed names full chans (length m.items) p.name.name p parametric_args (outer_ends 0 p.config.ends) (length p.config.ends) there ends_stand placed
+  family_stands : FamilyStands m top s known knows complete typed names full chans family
+  family_stands = all_stand m top s known knows complete typed names full chans (length m.items) p.name.name p parametric_args (outer_ends 0 p.config.ends) (length p.config.ends) there ends_stand placed
 
   pub chans_fit : EachHas ChanFits chans
   chans_fit =
       let st = family_stands in
       each_in_both ChanFits outers family.chans (outer_fit (proc_type_env known p parametric_args) (item_env known (parametric_args_bound [] p.parametrics parametric_args)) p.config.ends
-      (ends_have_words m top s loops complete typed names full chans p parametric_args there)) st.each_chan
+      (ends_have_words m top s known knows complete typed names full chans p parametric_args there)) st.each_chan
 
   pub procs_fit : EachHas (ProcFits known chans) family.procs
-  procs_fit = each_so (MembersStand m top s loops complete typed names full chans) (ProcFits known chans) (proc_fits m top s loops complete typed names full chans nexts) family.procs family_stands.each_proc
+  procs_fit = each_so (MembersStand m top s known knows complete typed names full chans) (ProcFits known chans) (proc_fits m top s known knows complete typed names full chans nexts) family.procs family_stands.each_proc
 
   pub keep_types : EachKeepsTypes (behaviors_over m known.items p)
   keep_types q b e =
@@ -124,23 +121,23 @@ module _ (m : Module) (top : Option (List ℕ)) (s : IsAccepted m top) (loops : 
       subst KeepsTypes a.2 (each_at (ProcFits known chans) family.procs procs_fit q a.0 a.1).keeps
 
   -- each end of a channel is at one proc
-  pub ends_once : UsedOnce known family.procs (Owned m top s loops complete typed p parametric_args (outer_ends 0 p.config.ends) (length p.config.ends) (length p.config.ends + length family.chans))
+  pub ends_once : UsedOnce known family.procs (Owned m top s known knows complete typed p parametric_args (outer_ends 0 p.config.ends) (length p.config.ends) (length p.config.ends + length family.chans))
   ends_once =
       let context = proc_type_env known p parametric_args in
       let many : 0 + length p.config.ends ≡ length p.config.ends = omega arith in
-      all_once m top s loops complete typed (length m.items) p.name.name p parametric_args (outer_ends 0 p.config.ends) (length p.config.ends) there (outer_scope context 0 p.config.ends)
+      all_once m top s known knows complete typed (length m.items) p.name.name p parametric_args (outer_ends 0 p.config.ends) (length p.config.ends) there (outer_scope context 0 p.config.ends)
       (subst (λ k. AreApart (map (channel_end_of context) p.config.ends) (outer_ends 0 p.config.ends) k) many (outer_apart context 0 p.config.ends))
 
   -- the channels have names of their own, where no outer one has a slash
   pub own_names : length family.procs < 2 ^ 64 → list_any (λ (e : End). has_slash e.name.name) p.config.ends ≡ false → HaveOwnNames chans
   own_names small plain =
       let context = proc_type_env known p parametric_args in
-      let parts = parts_well_typed m top s p parametric_args there.checked in
+      let parts = parts_well_typed m top s known knows p parametric_args there.checked in
       let made = config_statements_found context (made_at_start context p.config.ends) p.config.config_statements in
       let outer = ends_found context [] p.config.ends in
       let all : length family.procs ≤ length family.procs = omega arith in
       whole_named context (item_env known (parametric_args_bound [] p.parametrics parametric_args)) p.config.ends (none_in outer.faults (made.faults ++ _) parts.config).0 plain p.name.name family.chans
-      (all_named m top s loops complete typed (length family.procs) small (length m.items) p.name.name p parametric_args (outer_ends 0 p.config.ends) (length p.config.ends) there all)
+      (all_named m top s known knows complete typed (length family.procs) small (length m.items) p.name.name p parametric_args (outer_ends 0 p.config.ends) (length p.config.ends) there all)
 
   pub fits_but_names : length (net_over m known.items p).procs < 2 ^ 32 → length (net_over m known.items p).chans < 2 ^ 32 → FitsButNames (net_over m known.items p)
   fits_but_names few_procs few_chans = record {

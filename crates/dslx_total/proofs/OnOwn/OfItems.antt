@@ -20,11 +20,10 @@ use Rattle.dslx_meaning.specs.Environment.{Env, Given, bind}
 use Rattle.dslx_meaning.specs.Inference.{Inferred}
 use Rattle.dslx_meaning.specs.Items.{item_named, parametric_args_bound, with_number}
 use Rattle.dslx_meaning.specs.Lists.{and_then, is_in}
-use Rattle.dslx_meaning.specs.Operators.{number_value}
 use Rattle.dslx_meaning.specs.declared.ty.DslxType.{DslxType}
 use Rattle.dslx_meaning.specs.declared.value.DslxValue.{DslxValue}
 use Rattle.dslx_meaning.specs.declared.value.UntypedLiteral.{UntypedLiteral}
-use Rattle.dslx_meaning.specs.Rules.AggregateRules.{range_faults, wanted_faults}
+use Rattle.dslx_meaning.specs.Rules.AggregateRules.{range_faults, untyped_value, wanted_faults}
 use Rattle.dslx_meaning.specs.Rules.CallRules.{Number, ParametricArgsSeen, ParametricArgument, Resolved, Unknown, Wrong, and_parametric, default_value, known_before, not_given, of_type, parametric_args_for, parametric_args_seen, parametric_type, resolved_value, type_there, value_before, channel_end_in}
 use Rattle.dslx_meaning.specs.Rules.ConstantRules.{ConstantSeen, constant_of, is_empty, size_faults}
 use Rattle.dslx_meaning.specs.Rules.ItemRules.{ConstantFound, Found, and_found, annotation_typing, arguments_found, arguments_typed, base_if_bits, body_typing, default_found, fields_found, found_in, function_seen, function_type_env, item_type_env, member_constant, members_found, only_faults, parametrics_found, result_typing, typing_of_inner, typing_of_type}
@@ -126,6 +125,21 @@ module _ (test : Instance → Bool) (known : GlobalEnv) (owner : List ℕ) (x : 
       (ap (λ r. list_all test (rest r).declared.reached) a.known ∙ more)
 
 -- ---- parts of items
+
+-- a member of an enum, which may be a number without a type
+abbrev of_base : Option DslxType → ConstantSeen → List Fault → ConstantFound
+of_base base c wrong = record { found = record { faults = c.judgement.faults ++ wrong; reached = c.judgement.reached }; value = and_then base (λ t. if is_empty wrong then c.value else None) }
+
+abbrev number_in : Option DslxType → UntypedLiteral → Option DslxValue
+number_in None number = None
+number_in (Some t) number = untyped_value t number
+
+abbrev pub member_by : TypeEnv → Option DslxType → ExprPair → Option UntypedLiteral → ConstantFound
+member_by context base pair None = of_base base (constant_of context pair) (wanted_faults (span_of pair) base (constant_of context pair).judgement.ty)
+member_by context base pair (Some number) = record { found = only_faults (range_faults (span_of pair) base number); value = number_in base number }
+
+pub member_is : (context : TypeEnv) (base : Option DslxType) (x : Member) → member_constant context base x ≡ member_by context base (expr_pair x.value) (untyped_of (expr_pair x.value))
+member_is context base x = refl
 
 module _ (here test : Instance → Bool) (known : GlobalEnv) (complete : IsComplete known) (typed : AreTyped known) (callees : CalleesPass here test known) where
   abbrev Pass : Found → Type 0
@@ -338,25 +352,13 @@ module _ (here test : Instance → Bool) (known : GlobalEnv) (complete : IsCompl
       behind_more here test (listed_name before g.name) (j.faults ++ rest.faults) (j.reached ++ rest.reached)
       (join here test j.faults rest.faults j.reached rest.reached (inner_passes context (item_env known []) (placed owner [] (none_own known)) refl g.ty) (fields_pass owner (g.name.name ∷ before) fs))
 
-  abbrev of_base : Option DslxType → ConstantSeen → List Fault → ConstantFound
-  of_base base c wrong = record { found = record { faults = c.judgement.faults ++ wrong; reached = c.judgement.reached }; value = and_then base (λ t. if is_empty wrong then c.value else None) }
-
-  abbrev number_in : Option DslxType → UntypedLiteral → Option DslxValue
-  number_in None number = None
-  number_in (Some t) number = number_value t number
-
-  abbrev member_by : TypeEnv → Option DslxType → ExprPair → Option UntypedLiteral → ConstantFound
-  member_by context base pair None = of_base base (constant_of context pair) (wanted_faults (span_of pair) base (constant_of context pair).judgement.ty)
-  member_by context base pair (Some number) = record { found = only_faults (range_faults (span_of pair) base number); value = number_in base number }
-
   member_passes : (owner : List ℕ) (base : Option DslxType) (x : Member) → Pass (member_constant (item_type_env known owner []) base x).found
-  member_passes owner base x = by_untyped (untyped_of (expr_pair x.value))
+  member_passes owner base x = subst (λ (c : ConstantFound). Pass c.found) (sym (member_is (item_type_env known owner []) base x)) (by_untyped (untyped_of (expr_pair x.value)))
     where
-      context : TypeEnv
-      context = item_type_env known owner []
-
-      by_untyped : (o : Option UntypedLiteral) → Pass (member_by context base (expr_pair x.value) o).found
-      by_untyped None = let c = constant_of context (expr_pair x.value) in before_more here test c.judgement.faults _ c.judgement.reached (constant_in_passes context (item_env known []) (placed owner [] (none_own known)) refl x.value)
+      by_untyped : (o : Option UntypedLiteral) → Pass (member_by (item_type_env known owner []) base (expr_pair x.value) o).found
+      by_untyped None =
+          let c = constant_of (item_type_env known owner []) (expr_pair x.value) in
+          before_more here test c.judgement.faults _ c.judgement.reached (constant_in_passes (item_type_env known owner []) (item_env known []) (placed owner [] (none_own known)) refl x.value)
       by_untyped (Some number) = λ f r. refl
 
   members_pass : (owner : List ℕ) (base : Option DslxType) (before : List (List ℕ)) (ms : List Member) → Pass (members_found (item_type_env known owner []) base before ms)

@@ -56,8 +56,9 @@ use Rattle.dslx_total.proofs.OnConfigs.Configs.{depth_none, depth_reaches}
 use Rattle.dslx_total.proofs.OnExpressions.Joined.{seeing, seen}
 use Rattle.dslx_total.proofs.OnFamilies.Acts.{PartsWellTyped, parts_well_typed}
 use Rattle.dslx_total.proofs.OnFamilies.LastProc.{names_agree}
+use Rattle.dslx_total.proofs.OnFamilies.Knows.{Knows, all_sound, knows_itself}
 use Rattle.dslx_total.proofs.OnFamilies.Parametrics.{LoopsHaveNoValue, globals_alike, proc_known}
-use Rattle.dslx_total.proofs.OnFamilies.Reached.{IsProcOf, K, Listed, Passing, all, all_listed, all_sound, arguments_none, ends_none, most, reaching}
+use Rattle.dslx_total.proofs.OnFamilies.Reached.{IsProcOf, K, Listed, Passing, all, all_listed, arguments_none, ends_none, most}
 use Rattle.dslx_total.proofs.OnFamilies.Spawns.{each_argument, parametric_args_there, proc_named, well_behind}
 use Rattle.dslx_total.proofs.OnFamilies.There.{IsThere, well}
 use Rattle.dslx_total.proofs.OnFamilies.Tops.{defaults_there, named_by, none_wrong, top_empty, top_instance, top_listed, top_right}
@@ -83,16 +84,20 @@ one_of_both i (x ∷ xs) ys f g (inr h) = one_of_both i xs ys (λ k. f (inr k)) 
 
 -- ---- a parametric argument
 
+-- an argument, by its parts
+pub out_arg : (c : Carriers) (s : Steps c) (a : Arg) → fold_arg c s a ≡ s.arg (map_arg trees c (folds c s) (out-Arg a))
+out_arg c s a =
+    fold_out-Arg c.stmt c.node c.shape c.type_node c.block c.bind c.arg c.arm c.expr c.field c.loop c.number c.pattern c.type_expr s.stmt s.node s.shape s.type_node s.block s.bind s.arg s.arm s.expr s.field s.loop s.number s.pattern s.type_expr a
+
 argument_passes : (here test : Instance → Bool) (a : Arg) → ExprPasses here test (arg_pair a).1.1
 argument_passes here test a = subst (λ (p : ArgPair). ExprPasses here test p.1.1) (sym (out_arg seen seeing a)) (expression_passes here test (out-Arg a).value)
-  where
-    out_arg : (c : Carriers) (s : Steps c) (a : Arg) → fold_arg c s a ≡ s.arg (map_arg trees c (folds c s) (out-Arg a))
-    out_arg c s a =
-        fold_out-Arg c.stmt c.node c.shape c.type_node c.block c.bind c.arg c.arm c.expr c.field c.loop c.number c.pattern c.type_expr s.stmt s.node s.shape s.type_node s.block s.bind s.arg s.arm s.expr s.field s.loop s.number s.pattern s.type_expr a
 
 module _ (m : Module) (top : Option (List ℕ)) (s : IsAccepted m top) (loops : LoopsHaveNoValue m) (complete : IsComplete (K m top s)) (typed : AreTyped (K m top s)) where
   abbrev known : GlobalEnv
   known = K m top s
+
+  abbrev knows : Knows m top s known
+  knows = knows_itself m top s loops complete typed
 
   abbrev is_checked : Instance → Bool
   is_checked i = is_reached i (all m top s)
@@ -113,7 +118,7 @@ module _ (m : Module) (top : Option (List ℕ)) (s : IsAccepted m top) (loops : 
       let n = length m.items in
       let least : 2 * n ≤ 2 * n = omega arith in
       let more : 2 * n ≤ suc (2 * n) = omega arith in
-      ((uses_settle m s.plain (2 * n) (suc (2 * n)) least more AsFunction f.name.name).function f (ap as_function (known_item f.name.name ∙ named))).declared
+      ((uses_settle m (2 * n) (suc (2 * n)) least more AsFunction f.name.name).function f (ap as_function (known_item f.name.name ∙ named))).declared
 
   pub seen_there : (i : Instance) (f : Function) → item_named i.name m.items ≡ Some (d.Function f) → found_of_instance known i ≡ (function_seen known f i.parametric_args).found
   seen_there i f named = ap (found_of_item known i.parametric_args) (known_item i.name ∙ named)
@@ -170,13 +175,13 @@ module _ (m : Module) (top : Option (List ℕ)) (s : IsAccepted m top) (loops : 
       → is_checked (record { name = target.name.name; parametric_args = vs }) ≡ true → list_all test (proc_parametric_args known target gs).declared.reached ≡ true
   spawned_pass target named gs vs values own checked =
       let i : Instance = record { name = target.name.name; parametric_args = vs } in
-      let parts = parts_well_typed m top s target vs (record { named = named; among = one_of_these i (all m top s) checked }) in
+      let parts = parts_well_typed m top s known knows target vs (record { named = named; among = one_of_these i (all m top s) checked }) in
       let parametrics = parametrics_found known target.name.name [] [] target.parametrics vs in
       let passes = acts_pass here test known complete typed callees target vs own parts.acts.faults (all_here (acts_found known target vs).reached parts.passing parts.checked) in
-      declared_pass test known target.name.name (d.Proc target) (proc_known m s.plain target named) (globals_alike m s.plain target named loops) [] [] [] [] [] target.parametrics gs vs (stands_first target.name.name (d.Proc target)) values
+      declared_pass test known target.name.name (d.Proc target) (proc_known m target named) (globals_alike m target named loops) [] [] [] [] [] target.parametrics gs vs (stands_first target.name.name (d.Proc target)) values
       (all_in test parametrics.reached _ passes).0
 
-  module _ (p : Proc) (parametric_args : List DslxValue) (there : IsThere m top s p parametric_args) where
+  module _ (p : Proc) (parametric_args : List DslxValue) (there : IsThere m top s known p parametric_args) where
     abbrev context : TypeEnv
     context = proc_type_env known p parametric_args
 
@@ -187,7 +192,7 @@ module _ (m : Module) (top : Option (List ℕ)) (s : IsAccepted m top) (loops : 
     bound = parametric_names p.parametrics
 
     place : IsWellTypedEnv context env
-    place = well m top s complete typed p parametric_args there
+    place = well m top s known complete typed p parametric_args there
 
     depth_passes : (made : Made) (o : Option Arg) → Passes here test (depth_found (behind_ends context made) o).faults (depth_found (behind_ends context made) o).reached
     depth_passes made None = λ f r. refl
@@ -205,8 +210,8 @@ module _ (m : Module) (top : Option (List ℕ)) (s : IsAccepted m top) (loops : 
         let depth = depth_found behind c.depth in
         let P = Passing m top s in
         let inside = all_here (word.reached ++ depth.reached)
-        (join P word.reached depth.reached (written_type_reaches P c.word bound behind (reaching m top s behind.owner (mentioned_in_type c.word bound) (no_proc_in_type c.word bound)))
-        (depth_reaches P behind c.depth bound (reaching m top s behind.owner (arg_if c.depth bound) (depth_none c.depth bound)))) r in
+        (join P word.reached depth.reached (written_type_reaches P c.word bound behind (knows.reaching behind.owner (mentioned_in_type c.word bound) (no_proc_in_type c.word bound)))
+        (depth_reaches P behind c.depth bound (knows.reaching behind.owner (arg_if c.depth bound) (depth_none c.depth bound)))) r in
         let q = none_in word.faults depth.faults (none_in _ (word.faults ++ depth.faults) f).1 in
         let k = all_in here word.reached depth.reached inside in
         both_pass test word.reached depth.reached (channel_passes here test known complete typed callees behind env (well_behind context env made place) refl c.word q.0 k.0) (depth_passes made c.depth q.1 k.1)
@@ -245,11 +250,11 @@ module _ (m : Module) (top : Option (List ℕ)) (s : IsAccepted m top) (loops : 
           let found = reached_by (is_refused (cyclic target) n) target.name.name n.values in
           let listed = all_in is_checked declared.reached found r in
           let named = proc_named m sp.target.name target is in
-          let k = parametric_args_there m top s loops complete typed sp.target.name target is named gs g.values g.each g.mean c.1 (ap (λ (j : JudgedThere). j.faults) (sym there) ∙ d.1) (ap (λ (j : JudgedThere). list_all is_checked j.reached) (sym there) ∙ listed.0) no_wrong in
-          let i : Instance = record { name = target.name.name; parametric_args = k.parametric_args } in
-          let one = and_true (is_checked i) true ((λ t. list_all is_checked (reached_by (has_broken (sym c.0 t) || sym no_wrong t) target.name.name (sym k.is t))) ∙ listed.1) in
+          let checked : (vs : List DslxValue) → n.values ≡ Some vs → is_checked (record { name = target.name.name; parametric_args = vs }) ≡ true = λ vs e.
+          (and_true (is_checked (record { name = target.name.name; parametric_args = vs })) true ((λ t. list_all is_checked (reached_by (has_broken (sym c.0 t) || sym no_wrong t) target.name.name (sym e t))) ∙ listed.1)).0 in
+          let k = parametric_args_there m top s known knows complete typed target named gs g.values g.each g.mean c.1 (ap (λ (j : JudgedThere). j.faults) (sym there) ∙ d.1) (ap (λ (j : JudgedThere). list_all is_checked j.reached) (sym there) ∙ listed.0) no_wrong checked in
           let own : list_all test found ≡ true = (λ t. list_all test (reached_by (has_broken (c.0 t) || no_wrong t) target.name.name (k.is t))) ∙ (λ t. all_own_pass known.items.type_named k.parametric_args k.own t && true) in
-          both_pass test declared.reached found (ap (λ (j : JudgedThere). list_all test j.reached) there ∙ spawned_pass target named gs k.parametric_args k.is k.own one.0) own
+          both_pass test declared.reached found (ap (λ (j : JudgedThere). list_all test j.reached) there ∙ spawned_pass target named gs k.parametric_args k.is k.own k.among) own
 
       by_count : (target : Proc) → as_proc (item_named sp.target.name m.items) ≡ Some target → (b : Bool) → AreGiven behind env (map arg_pair sp.arguments) (map arg_denotation sp.arguments)
           → (if b then right_spawn context made sp target (cyclic target) (seen_of target) else only_faults (cyclic target ++ breaks 10 sp.span ∷ [])).faults ≡ []
@@ -273,8 +278,8 @@ module _ (m : Module) (top : Option (List ℕ)) (s : IsAccepted m top) (loops : 
           let b = none_in unknown spawned.faults a.1 in
           let c = all_in is_checked (reached_of_all given) spawned.reached r in
           let arguments = flat_map (λ (x : Arg). mentioned_in_arg x bound) sp.arguments in
-          let passing = given_reach (Passing m top s) behind (map arg_pair sp.arguments) (arguments_reach (Passing m top s) behind sp.arguments bound (reaching m top s context.owner arguments (arguments_none sp.arguments bound))) in
-          let g = parametric_args_given behind env (well_behind context env made place) (map arg_pair sp.arguments) (map arg_denotation sp.arguments) (each_argument sp.arguments) a.0 (all_sound m top s (reached_of_all given) passing c.0) in
+          let passing = given_reach (Passing m top s) behind (map arg_pair sp.arguments) (arguments_reach (Passing m top s) behind sp.arguments bound (knows.reaching context.owner arguments (arguments_none sp.arguments bound))) in
+          let g = parametric_args_given behind env (well_behind context env made place) (map arg_pair sp.arguments) (map arg_denotation sp.arguments) (each_argument sp.arguments) a.0 (all_sound m top s known knows (reached_of_all given) passing c.0) in
           both_pass test (reached_of_all given) spawned.reached (given_pass here test behind (map arg_pair sp.arguments) (each_given made sp.arguments) a.0 (all_here (reached_of_all given) passing c.0))
           (by_proc (as_proc (item_named sp.target.name known.whole.items)) refl g b.1 c.1)
 
@@ -296,20 +301,20 @@ module _ (m : Module) (top : Option (List ℕ)) (s : IsAccepted m top) (loops : 
         let b = all_in is_checked first.reached rest.reached r in
         both_pass test first.reached rest.reached (spawn_passes made sp a.0 b.0) (statements_pass made ms a.1 b.1)
 
-    config_passes : PartsWellTyped m top s p parametric_args → list_all test (config_found context p).reached ≡ true
+    config_passes : PartsWellTyped m top s known p parametric_args → list_all test (config_found context p).reached ≡ true
     config_passes parts =
         let start = made_at_start context p.config.ends in
         let made = config_statements_found context start p.config.config_statements in
         let outer = ends_found context [] p.config.ends in
         let a = none_in outer.faults (made.faults ++ _) parts.config in
         let b = all_in is_checked outer.reached (made.reached ++ []) parts.listed in
-        let named = found_ends (Passing m top s) context [] p.config.ends bound (reaching m top s context.owner (ends_mentions p.config.ends bound) (ends_none p.config.ends bound)) in
+        let named = found_ends (Passing m top s) context [] p.config.ends bound (knows.reaching context.owner (ends_mentions p.config.ends bound) (ends_none p.config.ends bound)) in
         both_pass test outer.reached (made.reached ++ []) (ends_pass here test known complete typed callees context env place refl [] p.config.ends a.0 (all_here outer.reached named b.0))
         (both_pass test made.reached [] (statements_pass start p.config.config_statements (none_in made.faults _ a.1).0 (all_in is_checked made.reached [] b.1).0) refl)
 
     proc_passes : list_all test (proc_seen known p parametric_args).reached ≡ true
     proc_passes =
-        let parts = parts_well_typed m top s p parametric_args there.checked in
+        let parts = parts_well_typed m top s known knows p parametric_args there.checked in
         let acts = acts_found known p parametric_args in
         let passes = acts_pass here test known complete typed callees p parametric_args there.own parts.acts.faults (all_here acts.reached parts.passing parts.checked) in
         let state = typing_of_type context p.next.ty in
@@ -414,19 +419,18 @@ module _ (m : Module) (top : Option (List ℕ)) (s : IsAccepted m top) (loops : 
   top_test (Some p) e =
       let n = proc_parametric_args known p [] in
       let declared = typing_there [] n in
-      let by = named_by m top s loops complete typed top p e in
+      let by = named_by m top s known knows complete typed top p e in
       let named = proc_named m by.0 p by.1 in
-      let lacking = defaults_there m top s loops complete typed p ((λ t. top_faults m top (sym e t)) ∙ top_right m top s loops complete typed) in
+      let lacking = defaults_there m top s known knows complete typed p ((λ t. top_faults m top (sym e t)) ∙ top_right m top s known knows complete typed) in
       let right = none_wrong known p.name.name (known_before []) p.parametrics lacking in
       let there = typing_right [] n refl right in
-      let empty = none_in n.faults declared.faults ((λ t. (tops (sym e t)).faults) ∙ top_empty m top s loops complete typed) in
-      let listed = all_in is_checked declared.reached (top_instance p n.values) ((λ t. list_all is_checked (tops (sym e t)).reached) ∙ top_listed m top s loops complete typed) in
-      let k = parametric_args_there m top s loops complete typed by.0 p by.1 named [] [] tt tt empty.0
-      (ap (λ (j : JudgedThere). j.faults) (sym there) ∙ empty.1) (ap (λ (j : JudgedThere). list_all is_checked j.reached) (sym there) ∙ listed.0) right in
-      let i : Instance = record { name = p.name.name; parametric_args = k.parametric_args } in
-      let one = and_true (is_checked i) true ((λ t. list_all is_checked (top_instance p (sym k.is t))) ∙ listed.1) in
+      let empty = none_in n.faults declared.faults ((λ t. (tops (sym e t)).faults) ∙ top_empty m top s known knows complete typed) in
+      let listed = all_in is_checked declared.reached (top_instance p n.values) ((λ t. list_all is_checked (tops (sym e t)).reached) ∙ top_listed m top s known knows complete typed) in
+      let checked : (vs : List DslxValue) → n.values ≡ Some vs → is_checked (record { name = p.name.name; parametric_args = vs }) ≡ true = λ vs q.
+      (and_true (is_checked (record { name = p.name.name; parametric_args = vs })) true ((λ t. list_all is_checked (top_instance p (sym q t))) ∙ listed.1)).0 in
+      let k = parametric_args_there m top s known knows complete typed p named [] [] tt tt empty.0 (ap (λ (j : JudgedThere). j.faults) (sym there) ∙ empty.1) (ap (λ (j : JudgedThere). list_all is_checked j.reached) (sym there) ∙ listed.0) right checked in
       let own : list_all test (top_instance p n.values) ≡ true = (λ t. list_all test (top_instance p (k.is t))) ∙ (λ t. all_own_pass known.items.type_named k.parametric_args k.own t && true) in
-      both_pass test declared.reached (top_instance p n.values) (ap (λ (j : JudgedThere). list_all test j.reached) there ∙ spawned_pass p named [] k.parametric_args k.is k.own one.0) own
+      both_pass test declared.reached (top_instance p n.values) (ap (λ (j : JudgedThere). list_all test j.reached) there ∙ spawned_pass p named [] k.parametric_args k.is k.own k.among) own
 
   -- ---- all that is checked
 

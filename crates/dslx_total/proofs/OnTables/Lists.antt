@@ -61,6 +61,7 @@ behind_more : (known : GlobalEnv) (before more : List Instantiated) (i : Instant
 behind_more known before more i r = record {
   function = r.function;
   is = r.is;
+  types = r.types;
   own = r.own;
   here = r.here;
   clean = r.clean;

@@ -12,6 +12,7 @@ use Rattle.dslx_core.specs.Lowering.Functions.{CoreInstance, Instantiated}
 use Rattle.dslx_core.specs.Networks.Configs.{ProcInstance}
 use Rattle.dslx_core.specs.Networks.Assembly.{IsDesignFrom, instances_alone}
 use Rattle.dslx_core.specs.Networks.Procs.{procs_from}
+use Rattle.dslx_total.specs.Instances.Checked.{AreOfChecked}
 
 -- instances in an order in which each spawns those before it, and what they are lowered to where these functions are at hand. The last one is
 -- this proc's with its defaults
@@ -25,8 +26,9 @@ pub record ProcsHaveTable (m : Module) (top : Option (List ℕ)) (functions : Li
   pub of_parametric_args : last.parametric_args ≡ top_parametric_args (meanings_of m) p
   pub few : length table ≤ length (instances_of m top)
 
--- a checked text that is made of its instances, and that simulates it
+-- a checked text that is made of its checked instances, and that simulates it
 pub record HasDesign (m : Module) (top : Option (List ℕ)) : Type 0 where
   pub design : Design
   pub made : IsDesignFrom m top design
+  pub checked : AreOfChecked m top made.named_functions
   pub stands : CoreOf m top design

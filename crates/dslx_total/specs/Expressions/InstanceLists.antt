@@ -1,5 +1,5 @@
 -- Instances in an order in which each reaches those before it alone, and what they are lowered to.
-use Rattle.std.specs.Prelude.{◌≡◌, ◌&&◌, ◌++◌, ℕ, List, [], ◌∷◌, Bool, true, Some, length}
+use Rattle.std.specs.Prelude.{◌≡◌, ◌&&◌, ◌++◌, List, [], ◌∷◌, Bool, true, Some, length}
 use Rattle.std.specs.List.{list_any}
 use Rattle.std.specs.Str.{bytes_eq}
 use Rattle.dslx_tree.specs.declared.item.Definition.TheVariants as d
@@ -25,23 +25,23 @@ is_among is i = list_any (λ (j : Instantiated). bytes_eq i.name j.name && pairw
 
 -- the signatures of a function's instances are what its types are typed to in its text
 abbrev pub IsAsTyped : GlobalEnv → Function → Type 0
-IsAsTyped known f = (parametric_args : List DslxValue) → signature_at known f.name.name parametric_args ≡ signature_of (function_type_env known f parametric_args) (Some (d.Function f))
+IsAsTyped known f = (parametric_args : List DslxValue) → length parametric_args ≡ length f.parametrics → signature_at known f.name.name parametric_args ≡ signature_of (function_type_env known f parametric_args) (Some (d.Function f))
 
 -- what must hold of the global environment, for what is lowered
 pub record CanLower (known : GlobalEnv) : Type 0 where
   pub complete : IsComplete known
   pub typed : AreTyped known
-  pub types : (name : List ℕ) (f : Function) → as_function (item_named name known.whole.items) ≡ Some f → IsAsTyped known f
   pub widths : NamesHaveWidths known
 
 -- instances that stand in a list, where they are of functions, and their parametrics have values of their own types
 abbrev pub AreThere : (Instance → Bool) → GlobalEnv → List Instantiated → Type 0
 AreThere here known is = (i : Instance) (f : Function) → as_function (item_named i.name known.whole.items) ≡ Some f → AllOwn known.items.type_named i.parametric_args → here i ≡ true → is_among is i ≡ true
 
--- a well-typed instance of a function, and what it reaches: sound instances, which stand before it
+-- a well-typed instance of a function, with the types that are judged, and what it reaches: sound instances, which stand before it
 pub record ReachesThese (known : GlobalEnv) (before : List Instantiated) (i : Instantiated) : Type 0 where
   pub function : Function
   pub is : as_function (item_named i.name known.whole.items) ≡ Some function
+  pub types : IsAsTyped known function
   pub own : AllOwn known.items.type_named i.parametric_args
   pub here : Instance → Bool
   pub clean : IsClean here (function_seen known function i.parametric_args).found.faults (function_seen known function i.parametric_args).found.reached

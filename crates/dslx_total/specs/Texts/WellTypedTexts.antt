@@ -2,16 +2,15 @@
 use Rattle.std.specs.Prelude.{◌≡◌, ℕ, List, [], ◌∷◌, Option, Some}
 use Rattle.dslx_tree.specs.declared.item.Module.{Module}
 use Rattle.dslx_tree.specs.declared.process.Proc.{Proc}
+use Rattle.dslx_meaning.specs.Items.{meanings_of}
 use Rattle.dslx_meaning.specs.Network.{Elaborated, family_of, top_proc}
 use Rattle.dslx_meaning.specs.declared.value.DslxValue.{DslxValue}
 use Rattle.dslx_meaning.specs.Rules.TypeEnvs.{GlobalEnv}
-use Rattle.dslx_meaning.specs.Rules.ModuleRules.{globals_of}
 use Rattle.dslx_meaning.specs.Rules.ProcRules.{proc_type_env}
-use Rattle.dslx_core.specs.Typing.Laws.Recursion.{HasNoCycle}
-use Rattle.dslx_core.specs.Typing.Depends.Settled.{BindsNoConstant}
+use Rattle.dslx_core.specs.Lowering.Instances.{ItemsAreOwn}
+use Rattle.dslx_core.specs.Typing.Typed.Complete.{IsComplete}
 use Rattle.dslx_core.specs.Typing.Typed.Numbers.{AllOwn}
-use Rattle.dslx_core.specs.Typing.Complete.HasValue.{IsWellTypedFound}
-use Rattle.dslx_core.specs.Typing.GlobalEnv.WellTypedParts.{EachItemWellTyped}
+use Rattle.dslx_core.specs.Typing.Complete.HasValue.{AreTyped, IsWellTypedFound}
 use Rattle.dslx_core.specs.Typing.Complete.Acts.{acts_found}
 use Rattle.dslx_core.specs.Typing.Procs.WordsOfEnds.{WordsAreValues}
 
@@ -26,9 +25,11 @@ abbrev pub EachProcIsWellTyped : GlobalEnv → List Elaborated → Type 0
 EachProcIsWellTyped known [] = Unit {0}
 EachProcIsWellTyped known (a ∷ as') = IsWellTypedProc known a.proc a.parametric_args × EachProcIsWellTyped known as'
 
--- no item reaches itself, no function binds a constant's name, and nothing is wrong with constants, types and the procs of the network
+-- what the items denote is known, and nothing is wrong with the procs of the network
 pub record IsWellTypedText (m : Module) (top : Option (List ℕ)) : Type 0 where
-  pub free : HasNoCycle m
-  pub plain : BindsNoConstant m
-  pub items : EachItemWellTyped m
-  pub procs : (p : Proc) → top_proc m top ≡ Some p → EachProcIsWellTyped (globals_of m) (family_of m p).procs
+  pub known : GlobalEnv
+  pub denoted : known.items ≡ meanings_of m
+  pub complete : IsComplete known
+  pub typed : AreTyped known
+  pub own : ItemsAreOwn (meanings_of m)
+  pub procs : (p : Proc) → top_proc m top ≡ Some p → EachProcIsWellTyped known (family_of m p).procs

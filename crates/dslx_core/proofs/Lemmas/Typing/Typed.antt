@@ -9,7 +9,7 @@ pub use Rattle.dslx_core.proofs.OnTyping.OnTyped.OfWords.{BaseLies, BitsLie, InR
 pub use Rattle.dslx_core.proofs.OnTyping.OnTyped.OneName.{one_of_text, like_itself, list_parts, parts_declared, array_declared, element_declared, struct_declared, tuple_declared}
 pub use Rattle.dslx_core.proofs.OnTyping.OnTyped.OfOperators.{binary_gives, prefix_gives, cast_gives, bits_declared}
 pub use Rattle.dslx_core.proofs.OnTyping.OnTyped.OfAggregates.{index_gives, tuple_gives, tuple_part_given}
-pub use Rattle.dslx_core.proofs.OnTyping.OnTyped.OfArrays.{number_given, untyped_gives, typed_gives}
+pub use Rattle.dslx_core.proofs.OnTyping.OnTyped.OfArrays.{number_given, untyped_given, untyped_gives, untyped_there, typed_gives}
 pub use Rattle.dslx_core.proofs.OnTyping.OnTyped.OfNames.{name_gives, member_gives, bool_gives, number_gives}
 pub use Rattle.dslx_core.proofs.OnTyping.OnTyped.OfPatterns.{bound_keeps, parts_of_type, one_value_keeps, name_pattern_keeps, tuple_pattern_keeps}
 pub use Rattle.dslx_core.proofs.OnTyping.OnTyped.OfControl.{truth_given, if_gives, let_keeps, bare_keeps, statements_keep, block_gives}

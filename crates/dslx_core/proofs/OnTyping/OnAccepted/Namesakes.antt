@@ -1,7 +1,8 @@
 -- No two items of a text without faults have one name, and so it stays as it is where items of one name are told apart.
-use Rattle.std.proofs.Common.{◌≡◌, ◌||◌, ℕ, suc, Bool, true, false, if◌then◌else◌, List, [], ◌∷◌, Option, refl, sym, ap, subst, ◌∙◌}
+use Rattle.std.proofs.Common.{◌≡◌, ◌||◌, ◌++◌, ℕ, suc, Bool, true, false, if◌then◌else◌, List, [], ◌∷◌, Option, refl, sym, ap, subst, ◌∙◌}
 use mathlib.Core.Bool.{true≢false}
 use Rattle.std.specs.Str.{bytes_eq}
+use Rattle.xb_span.specs.declared.fault.Fault.{Fault}
 use Rattle.dslx_tree.specs.declared.item.Definition.{Definition}
 use Rattle.dslx_tree.specs.declared.item.Definition.TheVariants as d
 use Rattle.dslx_tree.specs.declared.item.Item.{Item}
@@ -9,10 +10,10 @@ use Rattle.dslx_tree.specs.declared.item.Module.{Module}
 use Rattle.dslx_meaning.specs.Items.{name_of_definition}
 use Rattle.dslx_meaning.specs.Lists.{is_in, times_in}
 use Rattle.dslx_meaning.specs.Callees.{is_own_name}
-use Rattle.dslx_meaning.specs.Rules.ModuleRules.{faults_of, ident_of, item_names, items_faults}
+use Rattle.dslx_meaning.specs.Rules.ModuleRules.{faults_of, ident_of, instance_limit, instances_of, item_names, items_faults, or_else_all}
 use Rattle.dslx_meaning.specs.Rules.NameRules.{listed_name}
 use Rattle.dslx_meaning.specs.Rules.Namesakes.{marked_definition, told_apart, told_apart_behind}
-use Rattle.dslx_core.proofs.Lemmas.Typing.Sound.{none_in, not_broken}
+use Rattle.dslx_core.proofs.Lemmas.Typing.Sound.{none_in, not_broken, some_fault}
 use Rattle.dslx_core.proofs.Lemmas.Typing.Typed.{or_false}
 
 none_there : (name : List ℕ) (before : List (List ℕ)) → is_in name before ≡ false → times_in name before ≡ 0
@@ -52,11 +53,27 @@ already_apart before (i ∷ is) e =
     let rest = ap (λ n. told_apart_behind (n ∷ before) is) (sym name) ∙ already_apart (own.name ∷ before) is both.1 in
     λ t. record i { definition = first t } ∷ rest t
 
+-- neither are there too many instances, nor is anything else found
+neither : (fs gs : List Fault) → or_else_all fs gs ≡ [] → (fs ≡ []) × (gs ≡ [])
+neither [] gs e = (refl, e)
+neither (f ∷ fs) gs e = some_fault f fs e
+
+found_nowhere : (m : Module) (top : Option (List ℕ)) → faults_of m top ≡ [] → (instance_limit (instances_of (told_apart m) top) ≡ []) × (item_names [] m.items ≡ []) × (items_faults (told_apart m) top ≡ [])
+found_nowhere m top e =
+    let both = neither (instance_limit (instances_of (told_apart m) top)) (item_names [] m.items ++ items_faults (told_apart m) top) e in
+    let found = none_in (item_names [] m.items) (items_faults (told_apart m) top) both.1 in
+    (both.0, found.0, found.1)
+
 pub names_apart : (m : Module) (top : Option (List ℕ)) → faults_of m top ≡ [] → item_names [] m.items ≡ []
-names_apart m top e = (none_in (item_names [] m.items) (items_faults (told_apart m) top) e).0
+names_apart m top e = (found_nowhere m top e).1
+
+no_namesakes : (m : Module) (top : Option (List ℕ)) → faults_of m top ≡ [] → told_apart m ≡ m
+no_namesakes m top e = λ t. record { items = already_apart [] m.items (names_apart m top e) t }
 
 -- nothing is found of the text's own items
 pub own_faults : (m : Module) (top : Option (List ℕ)) → faults_of m top ≡ [] → items_faults m top ≡ []
-own_faults m top e =
-    let same : told_apart m ≡ m = λ t. record { items = already_apart [] m.items (names_apart m top e) t } in
-    subst (λ (x : Module). items_faults x top ≡ []) same (none_in (item_names [] m.items) (items_faults (told_apart m) top) e).1
+own_faults m top e = subst (λ (x : Module). items_faults x top ≡ []) (no_namesakes m top e) (found_nowhere m top e).2
+
+-- it has no more instances than it may have
+pub few_instances : (m : Module) (top : Option (List ℕ)) → faults_of m top ≡ [] → instance_limit (instances_of m top) ≡ []
+few_instances m top e = subst (λ (x : Module). instance_limit (instances_of x top) ≡ []) (no_namesakes m top e) (found_nowhere m top e).0

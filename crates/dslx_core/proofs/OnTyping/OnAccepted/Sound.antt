@@ -12,12 +12,11 @@ use Rattle.dslx_meaning.specs.Network.{top_proc}
 use Rattle.dslx_meaning.specs.Rules.ConstantRules.{is_empty}
 use Rattle.dslx_meaning.specs.Rules.TypeEnvs.{Instance, GlobalEnv, same_instance}
 use Rattle.dslx_meaning.specs.Rules.Mentions.{mentions_of}
-use Rattle.dslx_meaning.specs.Rules.ModuleRules.{faults_of, found_of_instance, instance_limit, instances_faults, instances_of, is_reached, item_found, items_found, globals_of, outside_instances, top_faults, top_found}
+use Rattle.dslx_meaning.specs.Rules.ModuleRules.{faults_of, found_of_instance, instances_faults, instances_of, is_reached, item_found, items_found, globals_of, outside_instances, top_faults, top_found}
 use Rattle.dslx_core.proofs.Lemmas.Typing.Typed.{none_some, same_some}
 use Rattle.dslx_core.specs.Typing.TypingRelations.Closed.{IsOneOf, ReachOneAnother}
 use Rattle.dslx_core.specs.Typing.TypingRelations.Reached.{AllNamed}
 use Rattle.dslx_core.proofs.Lemmas.Typing.TypingRelations.{in_first, in_second, items_reach}
-use Rattle.dslx_core.specs.Typing.Depends.Settled.{BindsNoConstant}
 use Rattle.dslx_core.proofs.Lemmas.Typing.Depends.{every_item_settles, is_proc_item, ranks_settle, reached_below, settles, settles_closed}
 use Rattle.dslx_core.specs.Typing.Complete.HasValue.{IsWellTypedFound}
 use Rattle.dslx_core.specs.Typing.GlobalEnv.WellTypedParts.{EachItemWellTyped}
@@ -74,7 +73,6 @@ instance_faults known i (x ∷ xs) (inr h) e = instance_faults known i xs h (bot
 -- ---- a text without faults
 
 pub record IsAccepted (m : Module) (top : Option (List ℕ)) : Type 0 where
-  pub plain : BindsNoConstant m
   pub faults : faults_of m top ≡ []
   pub among : ReachOneAnother (globals_of m) (instances_of m top)
   pub outside : (i : Instance) → IsOneOf i (outside_instances m top).reached → is_reached i (instances_of m top) ≡ true
@@ -88,9 +86,7 @@ module _ (m : Module) (top : Option (List ℕ)) (s : IsAccepted m top) where
 
   -- nothing is found outside instances, nor in them
   pub all_empty : ((outside_instances m top).faults ≡ []) × (instances_faults K instances ≡ [])
-  all_empty =
-      let front = both_empty (instance_limit instances ++ (outside_instances m top).faults) (instances_faults K instances) (own_faults m top s.faults) in
-      ((both_empty (instance_limit instances) (outside_instances m top).faults front.0).1, front.1)
+  all_empty = both_empty (outside_instances m top).faults (instances_faults K instances) (own_faults m top s.faults)
 
   items_empty : (items_found K m.items).faults ≡ []
   items_empty =
@@ -104,7 +100,7 @@ module _ (m : Module) (top : Option (List ℕ)) (s : IsAccepted m top) where
   sound (suc k) l i one p =
       let named = reached_below m k (2 * length m.items) i p in
       let reached = all_so K.is_sound (settles m k) (found_of_instance K i).reached named (λ j r q. sound k (omega (arith, l)) j (one_of_these j instances (s.among i j one r)) q) in
-      let settled = (ranks_settle m s.plain (suc k) (2 * length m.items) (suc (2 * length m.items)) (omega (arith, l)) (omega (arith, l))).known.sound i p in
+      let settled = (ranks_settle m (suc k) (2 * length m.items) (suc (2 * length m.items)) (omega (arith, l)) (omega (arith, l))).known.sound i p in
       settled ∙ (λ t. is_empty (instance_faults K i instances one all_empty.1 t) && reached t)
 
   pub outside : (i : Instance) → IsOneOf i (outside_instances m top).reached → IsOneOf i instances

@@ -23,7 +23,7 @@ use Rattle.dslx_meaning.specs.declared.value.DslxValue.{DslxValue}
 use Rattle.dslx_meaning.specs.declared.value.DslxValue as value
 use Rattle.dslx_meaning.specs.declared.value.DslxValue.TheViews as views
 use Rattle.dslx_meaning.specs.declared.value.SignedWord.{SignedWord}
-use Rattle.dslx_meaning.specs.Rules.AggregateRules.{range_faults, wanted_faults}
+use Rattle.dslx_meaning.specs.Rules.AggregateRules.{range_faults, wanted_faults, untyped_value}
 use Rattle.dslx_meaning.specs.Rules.ConstantRules.{ConstantSeen, constant_of, is_empty}
 use Rattle.dslx_meaning.specs.Rules.ItemRules.{ConstantFound, base_if_bits, enum_of_base, enum_seen, has_equal_values, enum_member_value, item_type_env, typing_of_type, member_constant, member_values, members_found, only_faults}
 use Rattle.dslx_meaning.specs.Rules.TypeEnvs.{ExprPair, GlobalEnv, TypeEnv, untyped_of, breaks_if, span_of, unless_broken}
@@ -34,10 +34,10 @@ use Rattle.dslx_meaning.specs.Rules.PatternRules.{is_there}
 use Rattle.dslx_core.proofs.Lemmas.Typing.Laws.{is_bits_type}
 use Rattle.dslx_core.specs.Typing.Typed.Complete.{IsComplete}
 use Rattle.dslx_core.specs.Typing.Typed.Declared.{IsDeclared}
-use Rattle.dslx_core.specs.Typing.Typed.Given.{GivesOf}
+use Rattle.dslx_core.specs.Typing.Typed.Given.{GivesOf, HasNarrowLeaves}
 use Rattle.dslx_core.specs.Typing.Typed.Kinds.{enum_of_kind, is_of, lies_in}
 use Rattle.dslx_core.specs.Typing.Typed.WellTyped.{IsWellTypedEnv, types_at}
-use Rattle.dslx_core.proofs.Lemmas.Typing.Typed.{is_bits_of, like_itself, number_given, of_enum, one_of_text, one_type}
+use Rattle.dslx_core.proofs.Lemmas.Typing.Typed.{is_bits_of, like_itself, of_enum, one_of_text, one_type, untyped_given, untyped_there}
 use Rattle.dslx_core.proofs.Lemmas.Typing.Sound.{all_in, constant_has, expression_gives, none_in, none_in_three, passed, type_has_den}
 use Rattle.dslx_core.specs.Typing.Complete.HasValue.{AreTyped, EnumHasType, IsWellTypedFound}
 use Rattle.dslx_core.proofs.OnTyping.OnComplete.Scopes.{item_env, item_typed, none_own}
@@ -47,7 +47,7 @@ use Rattle.dslx_meaning.specs.Environment.{Env, Meanings, outside}
 
 abbrev in_base : Option DslxType → UntypedLiteral → Option DslxValue
 in_base None number = None
-in_base (Some t) number = number_value t number
+in_base (Some t) number = untyped_value t number
 
 abbrev of_base : Option DslxType → ConstantSeen → List Fault → ConstantFound
 of_base base c wrong = record {
@@ -59,9 +59,9 @@ abbrev member_by : TypeEnv → Option DslxType → ExprPair → Option UntypedLi
 member_by context base pair None = of_base base (constant_of context pair) (wanted_faults (span_of pair) base (constant_of context pair).judgement.ty)
 member_by context base pair (Some number) = record { found = only_faults (range_faults (span_of pair) base number); value = in_base base number }
 
-member_has : (context : TypeEnv) (env : Env) → IsWellTypedEnv context env → (t : DslxType) → IsDeclared (types_at context) t → (m : Member) → IsWellTypedFound context.known (member_constant context (Some t) m).found
+member_has : (context : TypeEnv) (env : Env) → IsWellTypedEnv context env → (t : DslxType) → IsDeclared (types_at context) t → HasNarrowLeaves t → (m : Member) → IsWellTypedFound context.known (member_constant context (Some t) m).found
     → GivesOf (types_at context) t (member_constant context (Some t) m).value
-member_has context env h t declared m well_typed = by_untyped (untyped_of (expr_pair m.value)) well_typed
+member_has context env h t declared narrow m well_typed = by_untyped (untyped_of (expr_pair m.value)) well_typed
   where
     by_untyped : (o : Option UntypedLiteral) → IsWellTypedFound context.known (member_by context (Some t) (expr_pair m.value) o).found → GivesOf (types_at context) t (member_by context (Some t) (expr_pair m.value) o).value
     by_untyped None g =
@@ -79,16 +79,16 @@ member_has context env h t declared m well_typed = by_untyped (untyped_of (expr_
           declared = declared;
         }
     by_untyped (Some number) g =
-        number_given (types_at context) t number (passed (is_there (number_value t number)) 6 (span_of (expr_pair m.value)) g.faults) declared
+        untyped_given (types_at context) t number (passed (is_there (number_value t number)) 6 (span_of (expr_pair m.value)) g.faults) narrow declared
 
 -- what it means, by the number without a type that it may be
 abbrev bits_by : Meanings → BitKind → ExprDen → Option UntypedLiteral → Option DslxValue
 bits_by items kind m None = and_then (m.value (outside items)) (λ v. where_true (same_type (type_of_value v) (ty.Bits kind.signed kind.width)) (Some v))
 bits_by items kind m (Some number) = number_value (ty.Bits kind.signed kind.width) number
 
-member_is_denoted : (known : GlobalEnv) (owner : List ℕ) → IsWellTypedEnv (item_type_env known owner []) (item_env known []) → (t : DslxType) → IsDeclared known.items.type_named t → (b : BitKind) → t ≡ ty.Bits b.signed b.width → (m : Member)
+member_is_denoted : (known : GlobalEnv) (owner : List ℕ) → IsWellTypedEnv (item_type_env known owner []) (item_env known []) → (t : DslxType) → IsDeclared known.items.type_named t → HasNarrowLeaves t → (b : BitKind) → t ≡ ty.Bits b.signed b.width → (m : Member)
     → IsWellTypedFound known (member_constant (item_type_env known owner []) (Some t) m).found → (member_constant (item_type_env known owner []) (Some t) m).value ≡ member_bits known.items b (denotation m.value)
-member_is_denoted known owner h t declared b e m well_typed =
+member_is_denoted known owner h t declared narrow b e m well_typed =
     by_untyped (untyped_of (expr_pair m.value)) well_typed ∙ ap (bits_by known.items b (denotation m.value)) (ap (λ (x : ExprDen). x.bare) (expression_gives m.value).is)
   where
     context : TypeEnv
@@ -107,7 +107,7 @@ member_is_denoted known owner h t declared b e m well_typed =
         let alike : same_type (type_of_value k.gives.value) (ty.Bits b.signed b.width) ≡ true = ap (λ u. same_type u (ty.Bits b.signed b.width)) own ∙ like_itself (ty.Bits b.signed b.width) in
         (λ i. if is_empty (f.1 i) then c.value else None) ∙ k.known
         ∙ sym (ap (λ p. and_then p (λ v. where_true (same_type (type_of_value v) (ty.Bits b.signed b.width)) (Some v))) k.gives.is ∙ ap (λ p. where_true p (Some k.gives.value)) alike)
-    by_untyped (Some number) g = ap (λ u. number_value u number) e
+    by_untyped (Some number) g = untyped_there t narrow number ∙ ap (λ u. number_value u number) e
 
 -- ---- its value in the enum
 
@@ -180,6 +180,7 @@ enum_has_type known complete typed e well_typed =
     let s = all_in known.is_sound base.reached members.reached well_typed.reached in
     let k = (type_has_den e.base).known context env place (record { faults = g.0; reached = s.0 }) in
     let m = (type_has_den e.base).means context env place k.0 k.1 in
+    let narrow = (type_has_den e.base).narrow context g.0 k.0 k.1 in
     let of_bits = passed (is_bits k.0) 23 e.span (ap (unless_type is_bits 23 e.span) (sym k.1) ∙ f.1) in
     let b = is_bits_type k.0 of_bits in
     let in_bits : base_if_bits base.ty ≡ Some k.0 = ap base_if_bits k.1 ∙ ap (λ t. where_true t (Some k.0)) of_bits in
@@ -195,13 +196,13 @@ enum_has_type known complete typed e well_typed =
       members = λ name there.
           let found = find_member context k.0 name [] e.members ((λ i. (members_found context (sym in_bits i) [] e.members).faults) ∙ g.1)
           ((λ i. list_all known.is_sound (members_found context (sym in_bits i) [] e.members).reached) ∙ s.1) there in
-          let v = enum_value known e.name.name k.0 b.0 (member_constant context (Some k.0) found.member).value b.1 (member_has context env place k.0 m.1 found.member found.well_typed) in
+          let v = enum_value known e.name.name k.0 b.0 (member_constant context (Some k.0) found.member).value b.1 (member_has context env place k.0 m.1 narrow found.member found.well_typed) in
           record {
             value = v.value;
             is = (λ i. enum_member_value known e name (found.is i)) ∙ (λ i. and_then (is i) (λ t. and_then (member_constant context (in_bits i) found.member).value (enum_member e.name.name))) ∙ v.is;
             of = v.of;
             means = (λ i. and_then (found.is i) (member_value known.items e))
                 ∙ (λ i. and_then (based i) (λ kind. and_then (member_bits known.items kind (denotation found.member.value)) (enum_member e.name.name)))
-                ∙ ap (λ o. and_then o (enum_member e.name.name)) (sym (member_is_denoted known e.name.name place k.0 m.1 b.0 b.1 found.member found.well_typed)) ∙ v.is;
+                ∙ ap (λ o. and_then o (enum_member e.name.name)) (sym (member_is_denoted known e.name.name place k.0 m.1 narrow b.0 b.1 found.member found.well_typed)) ∙ v.is;
           };
     }

@@ -12,8 +12,10 @@ use Rattle.dslx_tree.specs.declared.expr.Expr.{Expr}
 use Rattle.dslx_tree.specs.declared.ident.Ident.{Ident}
 use Rattle.dslx_tree.specs.declared.item.Struct.{Struct}
 use Rattle.dslx_tree.specs.declared.type_expr.TypeExpr.{TypeExpr}
+use Rattle.dslx_tree.specs.declared.pattern.Pattern.{Pattern}
+use Rattle.dslx_tree.proofs.Lemmas.Folds.Folds.{fold_pattern}
 use Rattle.dslx_tree.proofs.Lemmas.Folds.Levels.{Carriers, StmtLevel, NodeLevel, ShapeLevel, TypeNodeLevel, BlockLevel, LetLevel, ArmLevel, FieldValueLevel, ForLevel, NumberLevel, map_stmt, map_node, map_shape, map_type_node, map_block, map_bind, map_arm, map_field, map_loop, map_number}
-use Rattle.dslx_tree.proofs.Lemmas.Folds.Related.{both, firsts, seconds, KeepRelated, related_expr, related_block, related_type_expr}
+use Rattle.dslx_tree.proofs.Lemmas.Folds.Related.{both, firsts, seconds, KeepRelated, related_expr, related_block, related_pattern, related_type_expr}
 use Rattle.dslx_meaning.specs.Callees.{kind_of_call}
 use Rattle.dslx_meaning.specs.Items.{as_struct, item_named}
 use Rattle.dslx_meaning.specs.Lists.{all_some, and_then, is_in}
@@ -58,16 +60,16 @@ judged Q = record {
 }
 
 -- no name is bound
-no_names : (names : List (List ℕ)) → is_empty names ≡ true → names ≡ []
+pub no_names : (names : List (List ℕ)) → is_empty names ≡ true → names ≡ []
 no_names [] e = refl
 no_names (n ∷ ns) e = absurd (true≢false (sym e))
 
-not_true : (b : Bool) → not b ≡ false → b ≡ true
+pub not_true : (b : Bool) → not b ≡ false → b ≡ true
 not_true true e = refl
 not_true false e = absurd (true≢false e)
 
 -- the second of four tests
-second_of_four : (a b c d : Bool) → (((a || b) || c) || d) ≡ false → b ≡ false
+pub second_of_four : (a b c d : Bool) → (((a || b) || c) || d) ≡ false → b ≡ false
 second_of_four a b c d h = (or_false a b (or_false (a || b) c (or_false ((a || b) || c) d h).0).0).1
 
 module _ (Q : Use → List ℕ → Bool) where
@@ -677,7 +679,7 @@ module _ (Q : Use → List ℕ → Bool) where
     type_expr = λ x. (seen_type_expr (judged Q) x, mentioned_type_expr (judged Q) x, x.node.2.2 x.span);
   }
 
--- an expression, a block, a type and a parametric argument
+-- an expression, a block, a type and a pattern
 pub expression_judged : (Q : Use → List ℕ → Bool) (e : Expr) → Judged Q (expr_pair e).1 (mentioned e)
 expression_judged Q e = (related_expr typing mentions (claimed (judged Q)) expr_typing mention_steps (all_judged Q) e).2
 
@@ -686,3 +688,6 @@ block_of_text_judged Q b = (related_block typing mentions (claimed (judged Q)) e
 
 pub written_type_judged : (Q : Use → List ℕ → Bool) (t : TypeExpr) → TypeJudged Q (type_pair t).1 (mentioned_in_type t)
 written_type_judged Q t = (related_type_expr typing mentions (claimed (judged Q)) expr_typing mention_steps (all_judged Q) t).2
+
+pub pattern_judged : (Q : Use → List ℕ → Bool) (p : Pattern) → PatternJudged Q (fold_pattern typing expr_typing p).1 (fold_pattern mentions mention_steps p)
+pattern_judged Q p = (related_pattern typing mentions (claimed (judged Q)) expr_typing mention_steps (all_judged Q) p).2

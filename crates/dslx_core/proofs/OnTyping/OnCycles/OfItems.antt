@@ -22,13 +22,12 @@ use Rattle.dslx_tree.specs.declared.type_expr.TypeExpr.{TypeExpr}
 use Rattle.dslx_meaning.specs.Environment.{Given, given_in}
 use Rattle.dslx_meaning.specs.Items.{as_constant, as_enum, as_function, as_struct, call_of, enum_member, is_constant_item, item_named, member_named, name_of_definition, parametric_args_bound, with_number}
 use Rattle.dslx_meaning.specs.Lists.{and_then, is_in}
-use Rattle.dslx_meaning.specs.Operators.{number_value}
 use Rattle.dslx_meaning.specs.Rules.NameRules.{listed_name, local_name}
 use Rattle.dslx_meaning.specs.Rules.OperatorRules.{is_bits, unless_type}
 use Rattle.dslx_meaning.specs.declared.ty.DslxType.{DslxType}
 use Rattle.dslx_meaning.specs.declared.value.DslxValue.{DslxValue}
 use Rattle.dslx_meaning.specs.declared.value.UntypedLiteral.{UntypedLiteral}
-use Rattle.dslx_meaning.specs.Rules.AggregateRules.{range_faults, wanted_faults}
+use Rattle.dslx_meaning.specs.Rules.AggregateRules.{range_faults, wanted_faults, untyped_value}
 use Rattle.dslx_meaning.specs.Rules.ConstantRules.{ConstantSeen, constant_of, constant_typing, is_empty, is_sound_here}
 use Rattle.dslx_meaning.specs.Rules.ItemRules.{has_equal_values, member_values, ConstantFound, annotation_typing, arguments_found, arguments_typed, base_if_bits, body_typing, bound_with, constant_seen, default_found, enum_member_value, enum_seen, fields_found, function_seen, function_type_env, is_annotated, item_type_env, member_constant, members_found, number_at, only_faults, parametric_args_behind, parametrics_found, result_typing, struct_seen, typing_of_inner, typing_of_type}
 use Rattle.dslx_meaning.specs.Rules.Mentions.{Use, AsPattern, Mention, definition_mentions, expr_if, field_names, fields_mentions, is_cyclic, is_of_use, item_reaches, mentioned, mentioned_in_block, mentioned_in_type, mentions_of, names_mentioned, parametric_names, parametrics_mentions, reaches_within, type_if}
@@ -172,7 +171,7 @@ module _ (m : Module) (n : ℕ) (owner : List ℕ) where
 
   abbrev in_base : Option DslxType → UntypedLiteral → Option DslxValue
   in_base None number = None
-  in_base (Some t) number = number_value t number
+  in_base (Some t) number = untyped_value t number
 
   abbrev of_base : Option DslxType → ConstantSeen → List Fault → ConstantFound
   of_base base c wrong = record {

@@ -17,7 +17,7 @@ use Rattle.dslx_meaning.specs.Rules.ConstantRules.{constant_of, is_empty}
 use Rattle.dslx_meaning.specs.Rules.ItemRules.{annotation_typing, base_if_bits, fields_found, has_equal_values, item_type_env, member_values, members_found, typing_of_type}
 use Rattle.dslx_meaning.specs.Rules.NodeRules.{expr_pair}
 use Rattle.dslx_meaning.specs.Rules.OperatorRules.{is_bits, unless_type}
-use Rattle.dslx_meaning.specs.Rules.ModuleRules.{faults_of, found_of_instance, globals_of, globals_within, instance_limit, instances_faults, instances_of, item_found, items_found, outside_instances, top_faults, top_found}
+use Rattle.dslx_meaning.specs.Rules.ModuleRules.{faults_of, found_of_instance, globals_of, globals_within, instances_faults, instances_of, item_found, items_found, outside_instances, top_faults, top_found}
 use Rattle.dslx_meaning.specs.Rules.Mentions.{definition_mentions, item_reaches, mentioned, mentioned_in_type, mentions_of, reaches_within, type_if}
 use Rattle.dslx_meaning.specs.Rules.TypeEnvs.{Instance, breaks_if, has_broken}
 use Rattle.dslx_core.specs.Typing.TypingRelations.Closed.{IsOneOf}
@@ -33,10 +33,7 @@ use Rattle.dslx_core.proofs.OnTyping.OnTyping.OfItems.{item_so_named}
 
 -- what the outside of instances and the instances break
 parts_empty : (m : Module) (top : Option (List ℕ)) → faults_of m top ≡ [] → ((outside_instances m top).faults ≡ []) × (instances_faults (globals_of m) (instances_of m top) ≡ [])
-parts_empty m top e =
-    let limit = instance_limit (instances_of m top) in
-    let all = both_empty (limit ++ (outside_instances m top).faults) (instances_faults (globals_of m) (instances_of m top)) (own_faults m top e) in
-    ((both_empty limit (outside_instances m top).faults all.0).1, all.1)
+parts_empty m top e = both_empty (outside_instances m top).faults (instances_faults (globals_of m) (instances_of m top)) (own_faults m top e)
 
 items_empty : (m : Module) (top : Option (List ℕ)) → faults_of m top ≡ [] → (items_found (globals_of m) m.items).faults ≡ []
 items_empty m top e =

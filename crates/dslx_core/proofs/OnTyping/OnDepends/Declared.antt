@@ -23,7 +23,7 @@ use Rattle.dslx_meaning.specs.Rules.ModuleRules.{declared_type, default_if, glob
 use Rattle.dslx_meaning.specs.Rules.NodeRules.{expr_pair}
 use Rattle.dslx_meaning.specs.Rules.TypeEnvs.{GlobalEnv, Judgement, has_broken, span_of, within}
 use Rattle.dslx_meaning.specs.Rules.TypeRules.{unless_unit}
-use Rattle.dslx_core.specs.Typing.Depends.Alike.{NamesAlike, SeesAlike, TypesAlike}
+use Rattle.dslx_core.specs.Typing.Depends.Alike.{HiddenAlike, NamesAlike, SeesAlike, TypesAlike}
 use Rattle.dslx_core.specs.Typing.TypingRelations.Cycles.{AllUsed}
 use Rattle.dslx_core.specs.Typing.TypingRelations.Reached.{IsClosed}
 use Rattle.dslx_core.proofs.Lemmas.Typing.Laws.Chains.{or_cases, or_first, or_second, same_name}
@@ -33,8 +33,8 @@ use Rattle.dslx_core.proofs.OnTyping.OnCycles.OfItems.{stands_where, uses_freely
 use Rattle.dslx_core.proofs.OnTyping.OnCycles.Parts.{constant_inside, unmarked}
 use Rattle.dslx_core.proofs.OnTyping.OnCycles.Untyped.{broken_constant_is_none, broken_type_is_none}
 use Rattle.dslx_core.proofs.OnTyping.OnDepends.OfItems as of
-use Rattle.dslx_core.proofs.OnTyping.OnDepends.OfItems.{FunctionParts, LeftAlike, Sight, Stage, den_parts, first_den, function_parts, left_next, mentions_alike, plain_at}
-use Rattle.dslx_core.proofs.OnTyping.OnDepends.Parametrics.{Covers, env_behind, types_alike}
+use Rattle.dslx_core.proofs.OnTyping.OnDepends.OfItems.{FunctionParts, LeftMentioned, Sight, Stage, den_parts, first_mentioned, function_parts, left_mentioned, mentions_alike, plain_at}
+use Rattle.dslx_core.proofs.OnTyping.OnDepends.Parametrics.{AreBound, Covers, env_behind, types_alike}
 use Rattle.dslx_core.proofs.OnTyping.OnDepends.NoProcs.{NoProcs, no_proc_in_type, no_procs_join}
 use Rattle.dslx_core.proofs.OnTyping.OnDepends.Stages.{all_no_procs, and_both, definition_none, is_proc_item, no_proc_use, not_true, parametrics_none, unless_proc}
 use Rattle.dslx_core.proofs.OnTyping.OnTyping.Closed.{all_weaker}
@@ -130,9 +130,9 @@ module _ (m : Module) (P Q : List ℕ → Bool) (closed : IsClosed P m) (low : L
           λ t. own t && others t
       by_use false g v rest = rest g
 
-  type_of : (owner : List ℕ) → Q owner ≡ true → (bound : List (List ℕ)) → NamesAlike A B bound → (x : TypeExpr) → ExprDen owner (mentioned_in_type x bound) → (given : List Given) (unknown : List (List ℕ)) → Covers bound given unknown
+  type_of : (owner : List ℕ) → Q owner ≡ true → (bound : List (List ℕ)) → (x : TypeExpr) → ExprDen owner (mentioned_in_type x bound) → (given : List Given) (unknown : List (List ℕ)) → Covers bound given unknown → HiddenAlike bound (env_behind A owner given unknown) B
       → (typing_of_type (env_behind A owner given unknown) x).ty ≡ (typing_of_type (env_behind B owner given unknown) x).ty
-  type_of owner h bound n x e given unknown c = by_broken (has_broken one.faults) (has_broken two.faults) refl refl
+  type_of owner h bound x e given unknown c n = by_broken (has_broken one.faults) (has_broken two.faults) refl refl
     where
       one : Judgement
       one = typing_of_type (env_behind A owner given unknown) x
@@ -141,16 +141,16 @@ module _ (m : Module) (P Q : List ℕ → Bool) (closed : IsClosed P m) (low : L
       two = typing_of_type (env_behind B owner given unknown) x
 
       same : AllUsed (uses_freely m owner) (mentioned_in_type x bound) → one.ty ≡ two.ty
-      same u = ap (λ (z : Judgement). z.ty) (of.type_at P Q (λ owner. P) m A B below_sight owner h bound n x (below owner (mentioned_in_type x bound) e u) given unknown [])
+      same u = ap (λ (z : Judgement). z.ty) (of.type_behind P Q (λ owner. P) m A B below_sight owner h bound x (below owner (mentioned_in_type x bound) e u) given unknown [] n)
 
       by_broken : (p q : Bool) → has_broken one.faults ≡ p → has_broken two.faults ≡ q → one.ty ≡ two.ty
       by_broken false q v w = same (written_type_judged (uses_freely m owner) x bound (env_behind A owner given unknown) (stands_where m A owner bound given unknown (a.kinds) (a.cyclic) c) v)
       by_broken true false v w = same (written_type_judged (uses_freely m owner) x bound (env_behind B owner given unknown) (stands_where m B owner bound given unknown (b.kinds) (b.cyclic) c) w)
       by_broken true true v w = broken_type_is_none x (env_behind A owner given unknown) v ∙ sym (broken_type_is_none x (env_behind B owner given unknown) w)
 
-  value_of : (owner : List ℕ) → Q owner ≡ true → (bound : List (List ℕ)) → NamesAlike A B bound → (x : Expr) → ExprDen owner (mentioned x bound) → (given : List Given) (unknown : List (List ℕ)) → Covers bound given unknown
+  value_of : (owner : List ℕ) → Q owner ≡ true → (bound : List (List ℕ)) → (x : Expr) → ExprDen owner (mentioned x bound) → (given : List Given) (unknown : List (List ℕ)) → Covers bound given unknown → HiddenAlike bound (env_behind A owner given unknown) B
       → (constant_of (env_behind A owner given unknown) (expr_pair x)).value ≡ (constant_of (env_behind B owner given unknown) (expr_pair x)).value
-  value_of owner h bound n x e given unknown c = by_broken (has_broken one.judgement.faults) (has_broken two.judgement.faults) refl refl
+  value_of owner h bound x e given unknown c n = by_broken (has_broken one.judgement.faults) (has_broken two.judgement.faults) refl refl
     where
       one : ConstantSeen
       one = constant_of (env_behind A owner given unknown) (expr_pair x)
@@ -159,7 +159,7 @@ module _ (m : Module) (P Q : List ℕ → Bool) (closed : IsClosed P m) (low : L
       two = constant_of (env_behind B owner given unknown) (expr_pair x)
 
       same : AllUsed (uses_freely m owner) (mentioned x bound) → one.value ≡ two.value
-      same u = ap (λ (z : ConstantSeen). z.value) (of.constant_at P Q (λ owner. P) m A B below_sight owner h bound n x (below owner (mentioned x bound) e u) given unknown [])
+      same u = ap (λ (z : ConstantSeen). z.value) (of.constant_behind P Q (λ owner. P) m A B below_sight owner h bound x (below owner (mentioned x bound) e u) given unknown [] n)
 
       whole : (known : GlobalEnv) → Reads m known → has_broken (constant_of (env_behind known owner given unknown) (expr_pair x)).judgement.faults ≡ false → AllUsed (uses_freely m owner) (mentioned x bound)
       whole known r v =
@@ -171,44 +171,48 @@ module _ (m : Module) (P Q : List ℕ → Bool) (closed : IsClosed P m) (low : L
       by_broken true false v w = same (whole B b w)
       by_broken true true v w = broken_constant_is_none (env_behind A owner given unknown) (expr_pair x) v ∙ sym (broken_constant_is_none (env_behind B owner given unknown) (expr_pair x) w)
 
-  default_of : (owner : List ℕ) → Q owner ≡ true → (bound : List (List ℕ)) → NamesAlike A B bound → (o : Option Expr) → ExprDen owner (expr_if o bound) → (given : List Given) (unknown : List (List ℕ)) → Covers bound given unknown
+  default_of : (owner : List ℕ) → Q owner ≡ true → (bound : List (List ℕ)) → (o : Option Expr) → ExprDen owner (expr_if o bound) → (given : List Given) (unknown : List (List ℕ)) → Covers bound given unknown → HiddenAlike bound (env_behind A owner given unknown) B
       → (default_if (env_behind A owner given unknown) o).value ≡ (default_if (env_behind B owner given unknown) o).value
-  default_of owner h bound n None e given unknown c = refl
-  default_of owner h bound n (Some x) e given unknown c = value_of owner h bound n x e given unknown c
+  default_of owner h bound None e given unknown c n = refl
+  default_of owner h bound (Some x) e given unknown c n = value_of owner h bound x e given unknown c n
 
-  arguments_of : (owner : List ℕ) → Q owner ≡ true → (fs : List Field) (bound : List (List ℕ)) → NamesAlike A B bound → ExprDen owner (fields_mentions fs bound) → (given : List Given) (unknown : List (List ℕ)) → Covers bound given unknown
+  arguments_of : (owner : List ℕ) → Q owner ≡ true → (fs : List Field) (bound : List (List ℕ)) → ExprDen owner (fields_mentions fs bound) → (given : List Given) (unknown : List (List ℕ)) → Covers bound given unknown → HiddenAlike bound (env_behind A owner given unknown) B
       → map (λ (f : Field). declared_type (env_behind A owner given unknown) f.ty) fs ≡ map (λ (f : Field). declared_type (env_behind B owner given unknown) f.ty) fs
-  arguments_of owner h [] bound n e given unknown c = refl
-  arguments_of owner h (f ∷ fs) bound n e given unknown c =
+  arguments_of owner h [] bound e given unknown c n = refl
+  arguments_of owner h (f ∷ fs) bound e given unknown c n =
       let both = den_parts (T owner) m (mentioned_in_type f.ty bound) (fields_mentions fs bound) e in
-      let first = type_of owner h bound n f.ty both.0 given unknown c in
-      let rest = arguments_of owner h fs bound n both.1 given unknown c in
+      let first = type_of owner h bound f.ty both.0 given unknown c n in
+      let rest = arguments_of owner h fs bound both.1 given unknown c n in
       λ t. unless_unit (first t) ∷ rest t
 
-  words_of : (owner : List ℕ) → Q owner ≡ true → (es : List End) (bound : List (List ℕ)) → NamesAlike A B bound → ExprDen owner (ends_mentions es bound) → (given : List Given) (unknown : List (List ℕ)) → Covers bound given unknown
+  words_of : (owner : List ℕ) → Q owner ≡ true → (es : List End) (bound : List (List ℕ)) → ExprDen owner (ends_mentions es bound) → (given : List Given) (unknown : List (List ℕ)) → Covers bound given unknown → HiddenAlike bound (env_behind A owner given unknown) B
       → map (λ (e : End). declared_type (env_behind A owner given unknown) e.word) es ≡ map (λ (e : End). declared_type (env_behind B owner given unknown) e.word) es
-  words_of owner h [] bound n e given unknown c = refl
-  words_of owner h (x ∷ xs) bound n e given unknown c =
+  words_of owner h [] bound e given unknown c n = refl
+  words_of owner h (x ∷ xs) bound e given unknown c n =
       let both = den_parts (T owner) m (mentioned_in_type x.word bound) (ends_mentions xs bound) e in
-      let first = type_of owner h bound n x.word both.0 given unknown c in
-      let rest = words_of owner h xs bound n both.1 given unknown c in
+      let first = type_of owner h bound x.word both.0 given unknown c n in
+      let rest = words_of owner h xs bound both.1 given unknown c n in
       λ t. unless_unit (first t) ∷ rest t
 
-  result_of : (owner : List ℕ) → Q owner ≡ true → (o : Option TypeExpr) (bound : List (List ℕ)) → NamesAlike A B bound → ExprDen owner (type_if o bound) → (given : List Given) (unknown : List (List ℕ)) → Covers bound given unknown
+  result_of : (owner : List ℕ) → Q owner ≡ true → (o : Option TypeExpr) (bound : List (List ℕ)) → ExprDen owner (type_if o bound) → (given : List Given) (unknown : List (List ℕ)) → Covers bound given unknown → HiddenAlike bound (env_behind A owner given unknown) B
       → (result_typing (env_behind A owner given unknown) o).ty ≡ (result_typing (env_behind B owner given unknown) o).ty
-  result_of owner h None bound n e given unknown c = refl
-  result_of owner h (Some x) bound n e given unknown c = type_of owner h bound n x e given unknown c
+  result_of owner h None bound e given unknown c n = refl
+  result_of owner h (Some x) bound e given unknown c n = type_of owner h bound x e given unknown c n
 
-  pub function_types : (f : Function) → item_named f.name.name m.items ≡ Some (d.Function f) → Q f.name.name ≡ true → NamesAlike A B (parametric_names f.parametrics) → TypesAlike (globals_over A) (globals_over B) f.name.name
-  function_types f is h plain =
-      types_alike A B owner (d.Function f) ((λ t. item_named owner (a.whole t).items) ∙ is) ((λ t. item_named owner (b.whole t).items) ∙ is) (LeftAlike T m A B owner) (left_next T m A B owner)
-      (λ bound p ps l given unknown c. type_of owner h bound l.plain p.ty (first_den T m A B owner bound p ps l).0 given unknown c)
-      (λ bound p ps l given unknown c. default_of owner h bound l.plain p.default (first_den T m A B owner bound p ps l).1 given unknown c)
-      (λ given unknown c.
-      let arguments = arguments_of owner h f.arguments (parametric_names f.parametrics) plain parts.arguments given unknown c in
-      let result = result_of owner h f.result (parametric_names f.parametrics) plain parts.result given unknown c in
+  hidden_from : (owner : List ℕ) (bound : List (List ℕ)) (given : List Given) (unknown : List (List ℕ)) → AreBound bound given unknown → HiddenAlike bound (env_behind A owner given unknown) B
+  hidden_from owner bound given unknown w = of.hidden_behind P Q (λ owner. P) m A B below_sight owner bound given unknown [] w
+
+  pub function_types : (f : Function) → item_named f.name.name m.items ≡ Some (d.Function f) → Q f.name.name ≡ true → TypesAlike (globals_over A) (globals_over B) f.name.name
+  function_types f is h =
+      types_alike A B owner (d.Function f) ((λ t. item_named owner (a.whole t).items) ∙ is) ((λ t. item_named owner (b.whole t).items) ∙ is) (LeftMentioned T m owner) (left_mentioned T m owner)
+      (λ bound p ps l given unknown c w. type_of owner h bound p.ty (first_mentioned T m owner bound p ps l).0 given unknown c (hidden_from owner bound given unknown w))
+      (λ bound p ps l given unknown c w. default_of owner h bound p.default (first_mentioned T m owner bound p ps l).1 given unknown c (hidden_from owner bound given unknown w))
+      (λ given unknown c w.
+      let n = hidden_from owner (parametric_names f.parametrics) given unknown w in
+      let arguments = arguments_of owner h f.arguments (parametric_names f.parametrics) parts.arguments given unknown c n in
+      let result = result_of owner h f.result (parametric_names f.parametrics) parts.result given unknown c n in
       λ t. record { arguments = arguments t; result = result t })
-      (record { plain = tt; others = plain; mentions = parts.parametrics })
+      parts.parametrics
     where
       owner : List ℕ
       owner = f.name.name
@@ -216,15 +220,15 @@ module _ (m : Module) (P Q : List ℕ → Bool) (closed : IsClosed P m) (low : L
       parts : FunctionParts T m f
       parts = function_parts T m f (own_mentioned owner (d.Function f) is refl h)
 
-  pub proc_types : (p : Proc) → item_named p.name.name m.items ≡ Some (d.Proc p) → Q p.name.name ≡ true → NamesAlike A B (parametric_names p.parametrics) → TypesAlike (globals_over A) (globals_over B) p.name.name
-  proc_types p is h plain =
-      types_alike A B owner (d.Proc p) ((λ t. item_named owner (a.whole t).items) ∙ is) ((λ t. item_named owner (b.whole t).items) ∙ is) (LeftAlike T m A B owner) (left_next T m A B owner)
-      (λ bound q ps l given unknown c. type_of owner h bound l.plain q.ty (first_den T m A B owner bound q ps l).0 given unknown c)
-      (λ bound q ps l given unknown c. default_of owner h bound l.plain q.default (first_den T m A B owner bound q ps l).1 given unknown c)
-      (λ given unknown c.
-      let words = words_of owner h p.config.ends names plain (mentioned_so owner h (ends_mentions p.config.ends names) (ends_none p.config.ends names) parts.1) given unknown c in
+  pub proc_types : (p : Proc) → item_named p.name.name m.items ≡ Some (d.Proc p) → Q p.name.name ≡ true → TypesAlike (globals_over A) (globals_over B) p.name.name
+  proc_types p is h =
+      types_alike A B owner (d.Proc p) ((λ t. item_named owner (a.whole t).items) ∙ is) ((λ t. item_named owner (b.whole t).items) ∙ is) (LeftMentioned T m owner) (left_mentioned T m owner)
+      (λ bound q ps l given unknown c w. type_of owner h bound q.ty (first_mentioned T m owner bound q ps l).0 given unknown c (hidden_from owner bound given unknown w))
+      (λ bound q ps l given unknown c w. default_of owner h bound q.default (first_mentioned T m owner bound q ps l).1 given unknown c (hidden_from owner bound given unknown w))
+      (λ given unknown c w.
+      let words = words_of owner h p.config.ends names (mentioned_so owner h (ends_mentions p.config.ends names) (ends_none p.config.ends names) parts.1) given unknown c (hidden_from owner names given unknown w) in
       λ t. record { arguments = words t; result = None })
-      (record { plain = tt; others = plain; mentions = mentioned_so owner h (parametrics_mentions p.parametrics []) (parametrics_none p.parametrics []) parts.0 })
+      (mentioned_so owner h (parametrics_mentions p.parametrics []) (parametrics_none p.parametrics []) parts.0)
     where
       owner : List ℕ
       owner = p.name.name

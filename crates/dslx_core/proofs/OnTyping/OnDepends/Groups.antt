@@ -1,5 +1,5 @@
 -- What an item declares, where nothing is known of what the items declare that reach it back: the types and the values are the same.
-use Rattle.std.proofs.Common.{◌≡◌, ◌&&◌, ◌||◌, ℕ, Bool, true, false, not, if◌then◌else◌, List, [], ◌∷◌, Some, None, refl, sym, ap, ◌∙◌}
+use Rattle.std.proofs.Common.{◌≡◌, ◌&&◌, ◌||◌, ℕ, Bool, true, false, not, if◌then◌else◌, List, Some, None, refl, sym, ap, ◌∙◌}
 use mathlib.Core.Bool.{true≢false}
 use Rattle.std.specs.Str.{bytes_eq}
 use Rattle.dslx_tree.specs.declared.item.Definition.TheVariants as d
@@ -8,10 +8,10 @@ use Rattle.dslx_tree.specs.declared.item.Module.{Module}
 use Rattle.dslx_tree.specs.declared.process.Proc.{Proc}
 use Rattle.dslx_meaning.specs.Items.{as_function, item_named}
 use Rattle.dslx_meaning.specs.Rules.ConstantRules.{untyped_typing}
-use Rattle.dslx_meaning.specs.Rules.Mentions.{Use, AsValue, AsPattern, AsType, AsFunction, AsProc, AsEnum, AsStruct, is_of_use, item_reaches, mentions_of, parametric_names}
+use Rattle.dslx_meaning.specs.Rules.Mentions.{Use, AsValue, AsPattern, AsType, AsFunction, AsProc, AsEnum, AsStruct, is_of_use, item_reaches, mentions_of}
 use Rattle.dslx_meaning.specs.Rules.ModuleRules.{globals_over, globals_within, no_signature}
 use Rattle.dslx_meaning.specs.Rules.TypeEnvs.{GlobalEnv}
-use Rattle.dslx_core.specs.Typing.Depends.Alike.{FunctionAlike, NamesAlike, TypesAlike, UseAlike}
+use Rattle.dslx_core.specs.Typing.Depends.Alike.{FunctionAlike, TypesAlike, UseAlike}
 use Rattle.dslx_core.specs.Typing.Depends.Groups.{without_own}
 use Rattle.dslx_core.specs.Typing.Laws.Ranks.{is_above}
 use Rattle.dslx_core.specs.Typing.TypingRelations.Reached.{IsClosed}
@@ -80,9 +80,9 @@ module _ (m : Module) (n : ℕ) (own : List ℕ) where
     declared = record {
       parameter = λ before. sym (λ t. if free t then untyped_typing else K.parameter_in f.name.name before);
       default = λ before. sym (λ t. if free t then record { judgement = untyped_typing; value = None } else K.default_in f.name.name before);
-      signature = λ values. sym (λ t. if free t then no_signature else K.signature_in f.name.name values);
+      signature = λ values many. sym (λ t. if free t then no_signature else K.signature_in f.name.name values);
     };
-    size = λ parametric_args. refl;
+    size = λ parametric_args many. refl;
   }
 
   uses : (u : Use) (name : List ℕ) → (is_of_use u (item_named name m.items) ≡ true → P name ≡ true) → UseAlike K B u name
@@ -111,16 +111,12 @@ module _ (m : Module) (n : ℕ) (own : List ℕ) where
   reads : Reads m B
   reads = let r = reads_level m n in record { whole = r.whole; kinds = r.kinds; cyclic = r.cyclic }
 
-  names : (ns : List (List ℕ)) → NamesAlike K B ns
-  names [] = tt
-  names (x ∷ xs) = (refl, names xs)
-
 pub function_sees_types : (m : Module) (n : ℕ) (f : Function) → item_named f.name.name m.items ≡ Some (d.Function f) → TypesAlike (globals_over (globals_within m n)) (globals_over (without_own (globals_within m n) f.name.name)) f.name.name
 function_sees_types m n f is =
     let own = f.name.name in
-    of.function_types m (P m n own) (Q m n own) (closed m n own) (low m n own) (K m n own) (B m n own) (reads_level m n) (reads m n own) (stand m n own) (λ owner name h e back member. refl) f is (itself own) (names m n own (parametric_names f.parametrics))
+    of.function_types m (P m n own) (Q m n own) (closed m n own) (low m n own) (K m n own) (B m n own) (reads_level m n) (reads m n own) (stand m n own) (λ owner name h e back member. refl) f is (itself own)
 
 pub proc_sees_types : (m : Module) (n : ℕ) (p : Proc) → item_named p.name.name m.items ≡ Some (d.Proc p) → TypesAlike (globals_over (globals_within m n)) (globals_over (without_own (globals_within m n) p.name.name)) p.name.name
 proc_sees_types m n p is =
     let own = p.name.name in
-    of.proc_types m (P m n own) (Q m n own) (closed m n own) (low m n own) (K m n own) (B m n own) (reads_level m n) (reads m n own) (stand m n own) (λ owner name h e back member. refl) p is (itself own) (names m n own (parametric_names p.parametrics))
+    of.proc_types m (P m n own) (Q m n own) (closed m n own) (low m n own) (K m n own) (B m n own) (reads_level m n) (reads m n own) (stand m n own) (λ owner name h e back member. refl) p is (itself own)

@@ -1,5 +1,6 @@
 -- The induction on all sorts of parts of a tree: each is judged alike where the same is known of what it mentions.
-use Rattle.std.proofs.Common.{◌≡◌, ◌||◌, ◌++◌, ◌-◌, ℕ, Bool, false, if◌then◌else◌, List, [], ◌∷◌, map, length, Option, Some, None, refl, sym, ap, subst, ◌∙◌}
+use Rattle.std.proofs.Common.{◌≡◌, ◌||◌, ◌++◌, ◌-◌, ℕ, Bool, true, false, if◌then◌else◌, List, [], ◌∷◌, map, length, Option, Some, None, refl, sym, ap, ◌∙◌}
+use Rattle.std.specs.Str.{bytes_eq}
 use Rattle.std.specs.List.{list_any}
 use Rattle.xb_span.specs.declared.span.Span.{Span}
 use Rattle.dslx_tree.specs.declared.block.Block.{Block}
@@ -11,7 +12,7 @@ use Rattle.dslx_tree.specs.declared.type_expr.TypeExpr.{TypeExpr}
 use Rattle.dslx_tree.proofs.Lemmas.Folds.Levels.{Carriers, StmtLevel, NodeLevel, ShapeLevel, TypeNodeLevel, BlockLevel, LetLevel, ArmLevel, FieldValueLevel, ForLevel, NumberLevel, map_stmt, map_node, map_shape, map_type_node, map_block, map_bind, map_arm, map_field, map_loop, map_number}
 use Rattle.dslx_tree.proofs.Lemmas.Folds.Related.{both, firsts, seconds, KeepRelated, related_expr, related_block, related_type_expr}
 use Rattle.dslx_meaning.specs.Callees.{CallKind, Calls, kind_of_call, is_text_function}
-use Rattle.dslx_meaning.specs.Lists.{all_some, and_then, with_both}
+use Rattle.dslx_meaning.specs.Lists.{all_some, and_then, is_in, with_both}
 use Rattle.dslx_meaning.specs.Meaning.{fitted}
 use Rattle.dslx_meaning.specs.declared.ty.DslxType.{DslxType}
 use Rattle.dslx_meaning.specs.declared.ty.DslxType as ty
@@ -19,37 +20,41 @@ use Rattle.dslx_meaning.specs.declared.value.DslxValue.{DslxValue}
 use Rattle.dslx_meaning.specs.Rules.AggregateRules.{field_typing, field_part_typing, field_type, index_typing, number_typing, struct_typing, wanted_faults}
 use Rattle.dslx_meaning.specs.Rules.CallRules.{call_typing}
 use Rattle.dslx_meaning.specs.Rules.ConstantRules.{ConstantSeen, constant_of}
-use Rattle.dslx_meaning.specs.Rules.ControlRules.{expr_statement_typing, behind, if_typing, last_typing, loop_with, span_of_block, statements_typing}
-use Rattle.dslx_meaning.specs.Rules.TypeEnvs.{ExprPair, Judgement, ExprTyping, GlobalEnv, TypeEnv, alone, constant_env, faults_of_all, no_token, one_and, plus_size, reached_of_all, settled, span_of, types_of, with_typed, limited}
+use Rattle.dslx_meaning.specs.Rules.ControlRules.{alternatives_seen, bound_type, expr_statement_typing, behind, if_typing, last_typing, loop_with, one_alternative, span_of_block, statements_typing, used_after}
+use Rattle.dslx_meaning.specs.Rules.EffectNames.{effect_channel}
+use Rattle.dslx_meaning.specs.Rules.TypeEnvs.{ExprPair, Judgement, ExprTyping, GlobalEnv, TypeEnv, Typed, alone, constant_env, faults_of_all, no_token, one_and, plus_size, reached_of_all, settled, span_of, types_of, with_typed, limited}
 use Rattle.dslx_meaning.specs.Rules.Typings.{PatternTyping, PatternPair, TypeExprTyping, StatementTyping, StatementSeen}
 use Rattle.dslx_meaning.specs.Rules.Mentions.{AsFunction, AsStruct, Mention, Mentions, NamesBound, all_mentions, binders_mentions, binders_names, bound_behind, mention, mentioned, mentioned_in_block, mentioned_in_type, mentions_if, statements_mentions}
 use Rattle.dslx_meaning.specs.Rules.NodeRules.{block_pair, expr_pair, second_of, type_pair}
 use Rattle.dslx_meaning.specs.Rules.OperatorRules.{binary_typing, bound_number, cast_typing, part_typing, prefix_typing, slice_faults}
-use Rattle.dslx_meaning.specs.Rules.PatternRules.{is_there, one_value, part_types, tuple_pattern}
+use Rattle.dslx_meaning.specs.Rules.PatternRules.{first_part_type, is_there, name_pattern, one_value, other_part_types, part_types, parts_typing, pattern_alone, tuple_pattern}
 use Rattle.dslx_meaning.specs.Rules.TypeRules.{array_of, counted_type}
-use Rattle.dslx_core.specs.Typing.Depends.Alike.{CalleeAlikeFrom, NamesAlike, SeesAlike, in_globals}
+use Rattle.dslx_core.specs.Typing.Depends.Alike.{CalleeAlikeFrom, MentionsAlike, NamesAlike, SeesFrom, in_globals}
 use Rattle.dslx_core.proofs.OnTyping.OnDepends.Links.{Claims, claimed, typing, expr_typing, mentions, mention_steps, seen_stmt, seen_node, seen_shape, seen_type_node, seen_block, seen_bind, seen_arg, seen_arm, seen_expr, seen_field, seen_loop, seen_number, seen_pattern, seen_type_expr, mentioned_stmt, mentioned_node, mentioned_shape, mentioned_type_node, mentioned_block, mentioned_bind, mentioned_arg, mentioned_arm, mentioned_expr, mentioned_field, mentioned_loop, mentioned_number, mentioned_pattern, mentioned_type_expr}
 use Rattle.dslx_core.proofs.OnTyping.OnDepends.OfCalls.{EachGivenSame, IfCalled, call_same}
-use Rattle.dslx_core.proofs.OnTyping.OnDepends.OfControl.{ArmSame, EachArmSame, EachPatternSame, PatternSame, arm_same, behind_in_globals, let_same, loop_behind, loop_same, match_same, name_pattern_same, parts_same}
-use Rattle.dslx_core.proofs.OnTyping.OnDepends.Scopes.{ExprAlike, TypingsAgree, behind_names, constant_alike, first_part, fits_alike, names_join, second_part, value_alike}
+use Rattle.dslx_core.proofs.OnTyping.OnDepends.OfControl.{ArmSame, EachArmSame, EachPatternSame, PatternKeeps, PatternSame, arm_same, behind_in_globals, let_same, loop_behind, loop_same, match_same, name_pattern_same, parts_same}
+use Rattle.dslx_core.proofs.OnTyping.OnDepends.Scopes.{ExprAlike, Keeps, LocalsKeep, TypingsAgree, alike_parts, behind_names, constant_alike, first_part, fits_alike, locals_kept, names_join, second_part, value_alike, with_locals}
+use Rattle.dslx_core.proofs.OnTyping.OnSized.Parts.{both_tests}
 use Rattle.dslx_core.proofs.OnTyping.OnDepends.Same.{EachFieldSame, EachSame, EachTypeSame, FieldSame, OthersSame, alone_same, array_same, bare_same, constant_same, count_same, frozen, inner_same, inner_types_same, member_same, name_same, named_same, struct_same, tuple_same, untyped_same, element_same}
 
 -- ---- what is to hold of each sort
 
 abbrev pub TypeAlike : (List ℕ → Bool) → TypeExprTyping → Mentions → Type 0
-TypeAlike P j ms = (bound : List (List ℕ)) (context : TypeEnv) (other : GlobalEnv) → SeesAlike P bound context.owner context.known other (ms bound) → j context ≡ j (in_globals context other)
+TypeAlike P j ms = (bound : List (List ℕ)) (context : TypeEnv) (other : GlobalEnv) → SeesFrom P bound context other (ms bound) → j context ≡ j (in_globals context other)
 
 -- a pattern, and the names in it, which are bound or constants of which the same is known
 pub record PatternAlike (P : List ℕ → Bool) (p : PatternTyping) (n : NamesBound) : Type 0 where
-  pub typing : (bound : List (List ℕ)) (context : TypeEnv) (other : GlobalEnv) → SeesAlike P bound context.owner context.known other (n.mentions bound) → PatternSame context other p
-  pub names : (bound : List (List ℕ)) (owner : List ℕ) (a b : GlobalEnv) → SeesAlike P bound owner a b (n.mentions bound) → NamesAlike a b n.names
+  pub typing : (bound : List (List ℕ)) (context : TypeEnv) (other : GlobalEnv) → SeesFrom P bound context other (n.mentions bound) → PatternSame context other p
+  pub names : (bound : List (List ℕ)) (owner : List ℕ) (a b : GlobalEnv) → MentionsAlike a b owner (n.mentions bound) → NamesAlike a b n.names
+  pub keeps : (context : TypeEnv) → PatternKeeps context p
 
 pub record StatementAlike (P : List ℕ → Bool) (s : StatementTyping) (n : NamesBound) : Type 0 where
   pub known : (on_top : Bool) (context : TypeEnv) → (s on_top context).context.known ≡ context.known
   pub owner : (on_top : Bool) (context : TypeEnv) → (s on_top context).context.owner ≡ context.owner
-  pub typing : (bound : List (List ℕ)) (on_top : Bool) (context : TypeEnv) (other : GlobalEnv) → SeesAlike P bound context.owner context.known other (n.mentions bound)
+  pub typing : (bound : List (List ℕ)) (on_top : Bool) (context : TypeEnv) (other : GlobalEnv) → SeesFrom P bound context other (n.mentions bound)
       → s on_top (in_globals context other) ≡ behind_in_globals (s on_top context) other
-  pub names : (bound : List (List ℕ)) (owner : List ℕ) (a b : GlobalEnv) → SeesAlike P bound owner a b (n.mentions bound) → NamesAlike a b n.names
+  pub names : (bound : List (List ℕ)) (owner : List ℕ) (a b : GlobalEnv) → MentionsAlike a b owner (n.mentions bound) → NamesAlike a b n.names
+  pub keeps : (on_top : Bool) (context : TypeEnv) → Keeps context (s on_top context).context
 
 abbrev pub alike : (List ℕ → Bool) → Claims
 alike P = record {
@@ -60,9 +65,9 @@ alike P = record {
   block = TypingsAgree P;
   bind = StatementAlike P;
   arg = ExprAlike P;
-  arm = λ a ms. (bound : List (List ℕ)) (context : TypeEnv) (other : GlobalEnv) → SeesAlike P bound context.owner context.known other (ms bound) → ArmSame context other a;
+  arm = λ a ms. (bound : List (List ℕ)) (context : TypeEnv) (other : GlobalEnv) → SeesFrom P bound context other (ms bound) → ArmSame context other a;
   expr = TypingsAgree P;
-  field = λ f ms. (bound : List (List ℕ)) (context : TypeEnv) (other : GlobalEnv) → SeesAlike P bound context.owner context.known other (ms bound) → FieldSame context other f;
+  field = λ f ms. (bound : List (List ℕ)) (context : TypeEnv) (other : GlobalEnv) → SeesFrom P bound context other (ms bound) → FieldSame context other f;
   loop = λ j ms. (span : Span) → TypeAlike P (j span) ms;
   number = λ j ms. (span : Span) → TypeAlike P (j span) ms;
   pattern = PatternAlike P;
@@ -102,13 +107,13 @@ module _ (P : List ℕ → Bool) where
 
   -- what is seen alike
   abbrev Sees : List (List ℕ) → TypeEnv → GlobalEnv → List Mention → Type 0
-  Sees bound context other ms = SeesAlike P bound context.owner context.known other ms
+  Sees bound context other ms = SeesFrom P bound context other ms
 
   one : (bound : List (List ℕ)) (context : TypeEnv) (other : GlobalEnv) (xs ys : List Mention) → Sees bound context other (xs ++ ys) → Sees bound context other xs
-  one bound context other xs ys h = first_part P bound context.owner context.known other xs ys h
+  one bound context other xs ys h = first_part P bound context other xs ys h
 
   two : (bound : List (List ℕ)) (context : TypeEnv) (other : GlobalEnv) (xs ys : List Mention) → Sees bound context other (xs ++ ys) → Sees bound context other ys
-  two bound context other xs ys h = second_part P bound context.owner context.known other xs ys h
+  two bound context other xs ys h = second_part P bound context other xs ys h
 
   -- ---- lists of parts
 
@@ -156,13 +161,13 @@ module _ (P : List ℕ → Bool) where
       let rest = binders_mentions (map (λ (q : PatternPart). q.1) ps) bound in
       (p.2.2.typing bound context other (one bound context other (p.1.mentions bound) rest h), patterns_alike bound context other ps (two bound context other (p.1.mentions bound) rest h))
 
-  binders_alike : (bound : List (List ℕ)) (owner : List ℕ) (a b : GlobalEnv) (ps : List PatternPart) → SeesAlike P bound owner a b (binders_mentions (map (λ (p : PatternPart). p.1) ps) bound)
+  binders_alike : (bound : List (List ℕ)) (owner : List ℕ) (a b : GlobalEnv) (ps : List PatternPart) → MentionsAlike a b owner (binders_mentions (map (λ (p : PatternPart). p.1) ps) bound)
       → NamesAlike a b (binders_names (map (λ (p : PatternPart). p.1) ps))
   binders_alike bound owner a b [] h = tt
   binders_alike bound owner a b (p ∷ ps) h =
       let rest = binders_mentions (map (λ (q : PatternPart). q.1) ps) bound in
-      names_join a b p.1.names (binders_names (map (λ (q : PatternPart). q.1) ps)) (p.2.2.names bound owner a b (first_part P bound owner a b (p.1.mentions bound) rest h))
-      (binders_alike bound owner a b ps (second_part P bound owner a b (p.1.mentions bound) rest h))
+      let r = alike_parts a b owner (p.1.mentions bound) rest h in
+      names_join a b p.1.names (binders_names (map (λ (q : PatternPart). q.1) ps)) (p.2.2.names bound owner a b r.0) (binders_alike bound owner a b ps r.1)
 
   -- ---- expressions
 
@@ -212,7 +217,7 @@ module _ (P : List ℕ → Bool) where
       let rest = all_mentions (map (λ (p : ExprPart). p.1) es) bound in
       array_same span context other (t.0.1 context) (t.0.1 (in_globals context other)) (map (λ (p : ExprPart). p.0) es) dots (t.2.2 bound context other (one bound context other (t.1 bound) rest h))
       (exprs_alike bound context other es (two bound context other (t.1 bound) rest h))
-  node_alike (Node-F.Node::Name name) span bound on_top context other h = name_same P span context other name h.known (value_alike context.known other context.owner bound name h.hidden h.alike)
+  node_alike (Node-F.Node::Name name) span bound on_top context other h = name_same P span context other name h.known (value_alike context other bound name h.hidden h.alike)
   node_alike (Node-F.Node::Member e a) span bound on_top context other h = ap (limited span) (member_same P context other e a h.known h.alike.0)
   node_alike (Node-F.Call f parametric_args es) span bound on_top context other h = call_alike (kind_of_call f.name) span f parametric_args es bound on_top context other h
   node_alike (Node-F.Node::Tuple es) span bound on_top context other h = tuple_same span context other (map (λ (p : ExprPart). p.0) es) (exprs_alike bound context other es h)
@@ -274,43 +279,71 @@ module _ (P : List ℕ → Bool) where
       let size = count_same P context other e.0 h.known (constant_alike P e.0 e.1 (expr_alike e) bound context other (two bound context other (t.1 bound) (e.1 bound) h)) in
       λ i. array_of span (element i) (size i)
 
+  parts_keep : (context : TypeEnv) (ps : List PatternPart) (may_fail : Bool) (ts : Option (List DslxType)) (names : List (List ℕ)) (locals : List Typed) → LocalsKeep locals (parts_typing may_fail context (map (λ (p : PatternPart). p.0) ps) ts names locals).locals
+  parts_keep context [] may_fail ts names locals name q = q
+  parts_keep context (p ∷ ps) may_fail ts names locals name q =
+      let first = p.0.1 may_fail context (first_part_type ts) names locals in
+      parts_keep context ps may_fail (other_part_types ts) first.names first.locals name (p.2.2.keeps context may_fail (first_part_type ts) names locals name q)
+
   shape_alike : (x : ShapeLevel Parts) (span : Span) → PatternAlike P ((expr_typing.shape (map_shape Parts typing (firsts typing mentions (claimed (alike P))) x)).1 span)
       (mention_steps.shape (map_shape Parts mentions (seconds typing mentions (claimed (alike P))) x))
-  shape_alike Shape-F.Wild span = record { typing = λ bound context other h may_fail t names locals. refl; names = λ bound owner a b h. tt }
-  shape_alike (Shape-F.Shape::Bool bit) span = record { typing = λ bound context other h may_fail t names locals. refl; names = λ bound owner a b h. tt }
+  shape_alike Shape-F.Wild span = record { typing = λ bound context other h may_fail t names locals. refl; names = λ bound owner a b h. tt; keeps = λ context may_fail t names locals name q. q }
+  shape_alike (Shape-F.Shape::Bool bit) span = record { typing = λ bound context other h may_fail t names locals. refl; names = λ bound owner a b h. tt; keeps = λ context may_fail t names locals name q. q }
   shape_alike (Shape-F.Shape::Number n) span = record {
     typing = λ bound context other h may_fail t names locals. ap (λ (j : Judgement). one_value span may_fail t names locals j (is_there j.ty)) (n.2.2 span bound context other h);
     names = λ bound owner a b h. tt;
+    keeps = λ context may_fail t names locals name q. q;
   }
   shape_alike (Shape-F.Shape::Name name) span = record {
     typing = λ bound context other h may_fail t names locals. name_pattern_same P span context other name h.known h.alike.0 may_fail t names locals;
-    names = λ bound owner a b h. (h.alike.0, tt);
+    names = λ bound owner a b h. (h.0, tt);
+    keeps = λ context may_fail t names locals other q. name_keeps context may_fail t names locals other q (context.known.items.is_constant name);
   }
+    where
+      name_keeps : (context : TypeEnv) (may_fail : Bool) (t : Option DslxType) (names : List (List ℕ)) (locals : List Typed) (other : List ℕ) → is_in other (map (λ (l : Typed). l.name) locals) ≡ true → (b : Bool)
+          → is_in other (map (λ (l : Typed). l.name) (name_pattern span may_fail context t names locals name b).locals) ≡ true
+      name_keeps context may_fail t names locals other q true = q
+      name_keeps context may_fail t names locals other q false = by_first (bytes_eq other name)
+        where
+          by_first : (b : Bool) → (if b then true else is_in other (map (λ (l : Typed). l.name) locals)) ≡ true
+          by_first true = refl
+          by_first false = q
   shape_alike (Shape-F.Shape::Member e a) span = record {
     typing = λ bound context other h may_fail t names locals. λ i. one_value span may_fail t names locals (member_same P context other e a h.known h.alike.0 i) (is_there (h.alike.0.members a.name i));
     names = λ bound owner a b h. tt;
+    keeps = λ context may_fail t names locals name q. q;
   }
   shape_alike (Shape-F.Shape::Tuple ps) span = record {
     typing = λ bound context other h may_fail t names locals.
         let qs = map (λ (p : PatternPart). p.0) ps in
         ap (tuple_pattern span t (part_types (length qs) t)) (parts_same context other qs (patterns_alike bound context other ps h) may_fail (part_types (length qs) t) names locals);
     names = λ bound owner a b h. binders_alike bound owner a b ps h;
+    keeps = λ context may_fail t names locals. parts_keep context ps may_fail (part_types (length (map (λ (p : PatternPart). p.0) ps)) t) names locals;
   }
 
   -- what alternatives bind
-  behind_alike : (bound : List (List ℕ)) (owner : List ℕ) (a b : GlobalEnv) (ps : List PatternPart) → SeesAlike P bound owner a b (binders_mentions (map (λ (p : PatternPart). p.1) ps) bound)
+  behind_alike : (bound : List (List ℕ)) (owner : List ℕ) (a b : GlobalEnv) (ps : List PatternPart) → MentionsAlike a b owner (binders_mentions (map (λ (p : PatternPart). p.1) ps) bound)
       → NamesAlike a b (bound_behind (map (λ (p : PatternPart). p.1) ps))
   behind_alike bound owner a b [] h = tt
-  behind_alike bound owner a b (p ∷ []) h = p.2.2.names bound owner a b (first_part P bound owner a b (p.1.mentions bound) [] h)
+  behind_alike bound owner a b (p ∷ []) h = p.2.2.names bound owner a b (alike_parts a b owner (p.1.mentions bound) [] h).0
   behind_alike bound owner a b (p ∷ q ∷ ps) h = tt
 
-  fits_any : (bound : List (List ℕ)) (context : TypeEnv) (other : GlobalEnv) (ps : List PatternPart) → Sees bound context other (binders_mentions (map (λ (p : PatternPart). p.1) ps) bound) → (v : DslxValue)
+  fits_any : (bound : List (List ℕ)) (context : TypeEnv) (other : GlobalEnv) (t : Option DslxType) (ps : List PatternPart) → Sees bound context other (binders_mentions (map (λ (p : PatternPart). p.1) ps) bound)
+      → (alternatives_seen context t (map (λ (p : PatternPart). p.0) ps)).is_known ≡ true → (v : DslxValue)
       → list_any (λ (p : PatternPair). is_there (fitted p.0 v (constant_env context))) (map (λ (p : PatternPart). p.0) ps)
       ≡ list_any (λ (p : PatternPair). is_there (fitted p.0 v (constant_env (in_globals context other)))) (map (λ (p : PatternPart). p.0) ps)
-  fits_any bound context other [] h v = refl
-  fits_any bound context other (p ∷ ps) h v =
+  fits_any bound context other t [] h k v = refl
+  fits_any bound context other t (p ∷ ps) h k v =
       let rest = binders_mentions (map (λ (q : PatternPart). q.1) ps) bound in
-      λ i. fits_alike P p.0.0 p.1 p.2.1 bound context other (one bound context other (p.1.mentions bound) rest h) v i || fits_any bound context other ps (two bound context other (p.1.mentions bound) rest h) v i
+      let behind = alternatives_seen context t (map (λ (q : PatternPart). q.0) ps) in
+      let r = both_tests (one_alternative context t p.0 behind).is_known behind.is_known k in
+      λ i. fits_alike P p.0.0 p.0 p.1 p.2.0 p.2.1 bound context other (one bound context other (p.1.mentions bound) rest h) true t [] behind.locals r.0 v i
+      || fits_any bound context other t ps (two bound context other (p.1.mentions bound) rest h) r.1 v i
+
+  -- alternatives add to the locals
+  alternatives_keep : (context : TypeEnv) (t : Option DslxType) (ps : List PatternPart) → LocalsKeep context.locals (alternatives_seen context t (map (λ (p : PatternPart). p.0) ps)).locals
+  alternatives_keep context t [] name q = q
+  alternatives_keep context t (p ∷ ps) name q = p.2.2.keeps context true t [] (alternatives_seen context t (map (λ (o : PatternPart). o.0) ps)).locals name (alternatives_keep context t ps name q)
 
   arm_alike : (x : ArmLevel Parts) (bound : List (List ℕ)) (context : TypeEnv) (other : GlobalEnv)
       → Sees bound context other (mention_steps.arm (map_arm Parts mentions (seconds typing mentions (claimed (alike P))) x) bound)
@@ -320,11 +353,13 @@ module _ (P : List ℕ → Bool) where
       let names = bound_behind (map (λ (p : PatternPart). p.1) x.patterns) in
       let inner = x.value.1 (names ++ bound) in
       let first = one bound context other own inner h in
-      let last = behind_names P names bound context.owner context.known other inner (behind_alike bound context.owner context.known other x.patterns first) (two bound context other own inner h) in
+      let same_names = behind_alike bound context.owner context.known other x.patterns first.alike in
+      let last = two bound context other own inner h in
       record {
-        fits = fits_any bound context other x.patterns first;
+        fits = λ t k v. fits_any bound context other t x.patterns first k v;
         typing = λ t. arm_same context other t (expr_typing.arm (map_arm Parts typing (firsts typing mentions (claimed (alike P))) x)).1 (patterns_alike bound context other x.patterns first)
-            (λ locals. x.value.2.2 (names ++ bound) false (with_typed context locals) other last);
+            (let locals = (alternatives_seen context t (map (λ (p : PatternPart). p.0) x.patterns)).locals in
+            x.value.2.2 (names ++ bound) false (with_typed context locals) other (with_locals P names bound context locals other inner (alternatives_keep context t x.patterns) same_names last));
       }
 
   -- ---- statements and blocks
@@ -341,7 +376,9 @@ module _ (P : List ℕ → Bool) where
         typing = λ bound on_top context other h.
             let_same context other x.value.0 (span_of x.value.0) on_top None None x.pattern.0 (x.value.2.2 bound on_top context other (one bound context other (x.value.1 bound) (x.pattern.1.mentions bound) h)) refl
             (x.pattern.2.2.typing bound context other (two bound context other (x.value.1 bound) (x.pattern.1.mentions bound) h));
-        names = λ bound owner a b h. x.pattern.2.2.names bound owner a b (second_part P bound owner a b (x.value.1 bound) (x.pattern.1.mentions bound) h);
+        names = λ bound owner a b h. x.pattern.2.2.names bound owner a b (alike_parts a b owner (x.value.1 bound) (x.pattern.1.mentions bound) h).1;
+        keeps = λ on_top context. locals_kept context (pattern_alone false context (x.value.0.1 on_top context).ty x.pattern.0).locals (used_after (effect_channel x.value.0.0) context.used)
+            (x.pattern.2.2.keeps context false (x.value.0.1 on_top context).ty [] context.locals);
       }
       by_type (Some t) = record {
         known = λ on_top context. refl;
@@ -352,7 +389,9 @@ module _ (P : List ℕ → Bool) where
             (x.value.2.2 bound on_top context other (two bound context other (t.1 bound) (x.value.1 bound) front))
             (ap (λ j. Some j) (t.2.2 bound context other (one bound context other (t.1 bound) (x.value.1 bound) front)))
             (x.pattern.2.2.typing bound context other (two bound context other (t.1 bound ++ x.value.1 bound) (x.pattern.1.mentions bound) h));
-        names = λ bound owner a b h. x.pattern.2.2.names bound owner a b (second_part P bound owner a b (t.1 bound ++ x.value.1 bound) (x.pattern.1.mentions bound) h);
+        names = λ bound owner a b h. x.pattern.2.2.names bound owner a b (alike_parts a b owner (t.1 bound ++ x.value.1 bound) (x.pattern.1.mentions bound) h).1;
+        keeps = λ on_top context. let wanted = bound_type (Some (t.0.1 context)) (x.value.0.1 on_top context).ty in
+            locals_kept context (pattern_alone false context wanted x.pattern.0).locals (used_after (effect_channel x.value.0.0) context.used) (x.pattern.2.2.keeps context false wanted [] context.locals);
       }
 
   -- an expression as a statement
@@ -362,12 +401,13 @@ module _ (P : List ℕ → Bool) where
       record { context = behind context context.locals e.0; faults = k.faults; reached = k.reached; size = k.size }
 
   stmt_alike : (x : StmtLevel Parts) → StatementAlike P (expr_typing.stmt (map_stmt Parts typing (firsts typing mentions (claimed (alike P))) x)).1 (mention_steps.stmt (map_stmt Parts mentions (seconds typing mentions (claimed (alike P))) x))
-  stmt_alike (Stmt-F.Let l) = record { known = l.2.2.known; owner = l.2.2.owner; typing = l.2.2.typing; names = l.2.2.names }
+  stmt_alike (Stmt-F.Let l) = record { known = l.2.2.known; owner = l.2.2.owner; typing = l.2.2.typing; names = l.2.2.names; keeps = l.2.2.keeps }
   stmt_alike (Stmt-F.Bare e) = record {
     known = λ on_top context. refl;
     owner = λ on_top context. refl;
     typing = λ bound on_top context other h. sym (ap (bare_by e.0 on_top (in_globals context other)) (e.2.2 bound on_top context other h));
     names = λ bound owner a b h. tt;
+    keeps = λ on_top context. locals_kept context context.locals (used_after (effect_channel e.0.0) context.used) (λ name q. q);
   }
 
   abbrev typings_of : List StmtPart → List StatementTyping
@@ -390,9 +430,8 @@ module _ (P : List ℕ → Bool) where
       let behind = statements_mentions (map (λ (q : StmtPart). q.1) ss) ms (s.1.names ++ bound) in
       let own = one bound context other (s.1.mentions bound) behind h in
       let first = s.0.1 on_top context in
-      let rest = behind_names P s.1.names bound context.owner context.known other behind (s.2.2.names bound context.owner context.known other own) (two bound context other (s.1.mentions bound) behind h) in
-      let moved = subst (λ owner. SeesAlike P (s.1.names ++ bound) owner first.context.known other behind) (sym (s.2.2.owner on_top context))
-      (subst (λ known. SeesAlike P (s.1.names ++ bound) context.owner known other behind) (sym (s.2.2.known on_top context)) rest) in
+      let moved = behind_names P s.1.names bound context first.context other behind (s.2.2.known on_top context) (s.2.2.owner on_top context) (s.2.2.keeps on_top context) (s.2.2.names bound context.owner context.known other own.alike)
+      (two bound context other (s.1.mentions bound) behind h) in
       let more = statements_alike value ms end ss (s.1.names ++ bound) on_top first.context other moved in
       record {
         walked = (λ i. let x = s.2.2.typing bound on_top context other own i in both_seen x (statements_typing (typings_of ss) on_top x.context)) ∙ (λ i. both_seen (behind_in_globals first other) (more.walked i));
@@ -444,14 +483,17 @@ module _ (P : List ℕ → Bool) where
           let e = one bound context other ends (x.start.1 bound) d in
           let acc = two bound context other five (x.accumulator.1.mentions bound) a in
           let index = two bound context other four (x.index.1.mentions bound) b in
-          let bound_names = names_join context.known other x.accumulator.1.names x.index.1.names (x.accumulator.2.2.names bound context.owner context.known other acc) (x.index.2.2.names bound context.owner context.known other index) in
-          let last = behind_names P names bound context.owner context.known other (x.body.1 (names ++ bound)) bound_names (two bound context other six (x.body.1 (names ++ bound)) h) in
+          let bound_names = names_join context.known other x.accumulator.1.names x.index.1.names (x.accumulator.2.2.names bound context.owner context.known other acc.alike) (x.index.2.2.names bound context.owner context.known other index.alike) in
+          let last = two bound context other six (x.body.1 (names ++ bound)) h in
           let from = constant_same P context other x.from.0 h.known (constant_alike P x.from.0 x.from.1 (expr_alike x.from) bound context other (one bound context other (x.from.1 bound) (x.to.1 bound) e)) in
           let to = constant_same P context other x.to.0 h.known (constant_alike P x.to.0 x.to.1 (expr_alike x.to) bound context other (two bound context other (x.from.1 bound) (x.to.1 bound) e)) in
           let start = alone_alike bound context other x.start (two bound context other ends (x.start.1 bound) d) in
           let annotation = own (two bound context other three typed c) in
           ap (loop_with span (span_of_block x.body.0)) (loop_same context other (constant_of context x.from.0) (constant_of context x.to.0) (alone context x.start.0) written x.index.0 x.accumulator.0 x.body.0
-          (x.index.2.2.typing bound context other index) (λ locals. x.accumulator.2.2.typing bound (with_typed context locals) other acc) (λ locals. x.body.2.2 (names ++ bound) false (with_typed context locals) other last)
+          (x.index.2.2.typing bound context other index)
+          (λ locals k. x.accumulator.2.2.typing bound (with_typed context locals) other (with_locals P [] bound context locals other (x.accumulator.1.mentions bound) k tt acc))
+          (λ locals k. x.body.2.2 (names ++ bound) false (with_typed context locals) other (with_locals P names bound context locals other (x.body.1 (names ++ bound)) k bound_names last))
+          (x.index.2.2.keeps context) (λ locals. x.accumulator.2.2.keeps (with_typed context locals))
           ∙ (λ i. loop_behind (in_globals context other) x.index.0 x.accumulator.0 x.body.0 (from i) (to i) (start i) (annotation i)))
 
       by_type : (o : Option TypePart)
@@ -482,7 +524,7 @@ module _ (P : List ℕ → Bool) where
           → Sees bound context other (mention_steps.field (map_field Parts mentions (seconds typing mentions (claimed (alike P))) (record { name = x.name; value = o })) bound)
           → FieldSame context other (expr_typing.field (map_field Parts typing (firsts typing mentions (claimed (alike P))) (record { name = x.name; value = o }))).1
       by_value None bound context other h struct =
-          ap (field_by_name x.name (field_type struct x.name.name)) (name_same P x.name.span context other x.name.name h.known (value_alike context.known other context.owner bound x.name.name h.hidden h.alike))
+          ap (field_by_name x.name (field_type struct x.name.name)) (name_same P x.name.span context other x.name.name h.known (value_alike context other bound x.name.name h.hidden h.alike))
       by_value (Some e) bound context other h struct = λ i. field_typing context struct (record { name = x.name; value = Some (frozen e.0 (e.2.2 bound false context other h i)) })
 
   -- ---- the whole

@@ -9,11 +9,10 @@ use Rattle.dslx_tree.specs.declared.item.Function.{Function}
 use Rattle.dslx_tree.specs.declared.item.Module.{Module}
 use Rattle.dslx_tree.specs.declared.process.Proc.{Proc}
 use Rattle.dslx_meaning.specs.Items.{as_function, item_named}
-use Rattle.dslx_meaning.specs.Rules.Mentions.{Use, AsValue, AsPattern, AsType, AsFunction, AsProc, AsEnum, AsStruct, Mention, is_cyclic, is_of_use, item_reaches, mentions_of, names_mentioned, parametric_names}
+use Rattle.dslx_meaning.specs.Rules.Mentions.{Use, AsValue, AsPattern, AsType, AsFunction, AsProc, AsEnum, AsStruct, Mention, is_cyclic, is_of_use, item_reaches, mentions_of, names_mentioned}
 use Rattle.dslx_meaning.specs.Rules.ModuleRules.{found_of_instance, globals_over, globals_within}
 use Rattle.dslx_meaning.specs.Rules.TypeEnvs.{GlobalEnv, Instance}
 use Rattle.dslx_core.specs.Typing.Depends.Alike.{MentionsAlike, NamesAlike, SeenAlike, SeesAlike, TypesAlike, UseAlike}
-use Rattle.dslx_core.specs.Typing.Depends.Settled.{BindsNoConstant}
 use Rattle.dslx_core.specs.Typing.Laws.Ranks.{is_above}
 use Rattle.dslx_core.specs.Typing.TypingRelations.Reached.{AllNamed, IsClosed, MentionsReach}
 use Rattle.dslx_core.proofs.Lemmas.Typing.Laws.Chains.{or_cases, or_first, or_second}
@@ -22,7 +21,7 @@ use Rattle.dslx_core.proofs.OnTyping.OnCycles.OfItems.{kind_is, no_call, no_cons
 use Rattle.dslx_core.proofs.OnTyping.OnCycles.OfProcs.{reaches_no_proc}
 use Rattle.dslx_core.proofs.OnTyping.OnDepends.Declared as of
 use Rattle.dslx_core.proofs.OnTyping.OnDepends.Declared.{LowPass, Reads, beside_or, enums_alike, is_beside, loops_beside}
-use Rattle.dslx_core.proofs.OnTyping.OnDepends.OfItems.{Sight, Stage, den_one, plain_alike, plain_at}
+use Rattle.dslx_core.proofs.OnTyping.OnDepends.OfItems.{Sight, Stage, den_one, plain_at}
 use Rattle.dslx_core.proofs.OnTyping.OnDepends.Ranks.{all_at, all_from, ranked, ranked_below, ranked_longer, ranked_reached, ranked_so}
 use Rattle.dslx_core.proofs.OnTyping.OnDepends.NoProcs.{IsNoProc, NoProcs}
 use Rattle.dslx_core.proofs.OnTyping.OnDepends.Scopes.{seen_from}
@@ -105,8 +104,8 @@ module _ (m : Module) (k i j : ℕ) (s : Stage (settles m k) m (globals_within m
   no_members : (owner name : List ℕ) → Q owner ≡ true → item_reaches m owner name ≡ true → item_reaches m name owner ≡ true → (member : List ℕ) → A.items.member name member ≡ B.items.member name member
   no_members owner name h e back member = let loops = reaches_on m name owner name back e in no_member m name loops i member ∙ sym (no_member m name loops j member)
 
-  pub function_types : (f : Function) → item_named f.name.name m.items ≡ Some (d.Function f) → Q f.name.name ≡ true → NamesAlike A B (parametric_names f.parametrics) → TypesAlike (globals_over A) (globals_over B) f.name.name
-  function_types f is h plain = of.function_types m P Q (settles_closed m k) (below_settles m k) A B (reads_level m i) (reads_level m j) s no_members f is h plain
+  pub function_types : (f : Function) → item_named f.name.name m.items ≡ Some (d.Function f) → Q f.name.name ≡ true → TypesAlike (globals_over A) (globals_over B) f.name.name
+  function_types f is h = of.function_types m P Q (settles_closed m k) (below_settles m k) A B (reads_level m i) (reads_level m j) s no_members f is h
 
   abbrev ExprDen : List ℕ → List Mention → Type 0
   ExprDen owner ms = list_all (T owner) (names_mentioned m ms) ≡ true
@@ -204,12 +203,12 @@ none_settle m a b = record {
 
 -- each rank takes two levels: at the first the types that its functions declare are the same by all longer chains, at the second all
 -- that is known of its items
-next_rank : (m : Module) → BindsNoConstant m → (k a b : ℕ) → Stage (settles m k) m (globals_within m a) (globals_within m b) → Stage (settles m k) m (globals_within m (suc a)) (globals_within m (suc b))
+next_rank : (m : Module) (k a b : ℕ) → Stage (settles m k) m (globals_within m a) (globals_within m b) → Stage (settles m k) m (globals_within m (suc a)) (globals_within m (suc b))
     → Stage (settles m (suc k)) m (globals_within m (suc (suc a))) (globals_within m (suc (suc b)))
-next_rank m plain k a b first second = record {
+next_rank m k a b first second = record {
   text = whole_is m (suc (suc a));
-  known = globals_over_alike P Q T m (globals_within m (suc a)) (globals_within m (suc b)) sight (own_settles m k) plain (λ i h. reached_below m k (suc a) i h) Q (λ name h. (h, not_true (is_proc_item (item_named name m.items)) (and_both (ranked m (suc k) name) (not (is_proc_item (item_named name m.items))) h).1));
-  uses = λ u name h. uses_over P Q T m (globals_within m (suc a)) (globals_within m (suc b)) sight (own_settles m k) plain u name h;
+  known = globals_over_alike P Q T m (globals_within m (suc a)) (globals_within m (suc b)) sight (own_settles m k) (λ i h. reached_below m k (suc a) i h) Q (λ name h. (h, not_true (is_proc_item (item_named name m.items)) (and_both (ranked m (suc k) name) (not (is_proc_item (item_named name m.items))) h).1));
+  uses = λ u name h. uses_over P Q T m (globals_within m (suc a)) (globals_within m (suc b)) sight (own_settles m k) u name h;
   reach = λ owner ms h. den_reach Q m (settles_closed m (suc k)) (suc (suc a)) owner ms h;
   reached = λ i h. instances_reach Q m (settles_closed m (suc k)) (suc (suc a)) i h;
 }
@@ -224,36 +223,35 @@ next_rank m plain k a b first second = record {
     T = is_reached_so m k
 
     types : (f : Function) → item_named f.name.name m.items ≡ Some (d.Function f) → Q f.name.name ≡ true → TypesAlike (globals_within m (suc a)) (globals_within m (suc b)) f.name.name
-    types f is h =
-        function_types m k a b first f is h (plain_alike P m (globals_within m a) (globals_within m b) (settles_closed m k) first (parametric_names f.parametrics) (plain f.name.name f (ap as_function is)).0)
+    types f is h = function_types m k a b first f is h
 
     sight : Sight P Q T m (globals_within m (suc a)) (globals_within m (suc b))
     sight = beside_sight m k (suc a) (suc b) second types
 
-pub ranks_settle : (m : Module) → BindsNoConstant m → (k a b : ℕ) → 2 * k ≤ a → 2 * k ≤ b → Stage (settles m k) m (globals_within m a) (globals_within m b)
-ranks_settle m plain zero a b p q = none_settle m a b
-ranks_settle m plain (suc k) zero b p q = absurd (nothing p)
+pub ranks_settle : (m : Module) (k a b : ℕ) → 2 * k ≤ a → 2 * k ≤ b → Stage (settles m k) m (globals_within m a) (globals_within m b)
+ranks_settle m zero a b p q = none_settle m a b
+ranks_settle m (suc k) zero b p q = absurd (nothing p)
   where
     nothing : 2 * suc k ≤ 0 → ⊥
     nothing l = omega (arith, l)
-ranks_settle m plain (suc k) (suc zero) b p q = absurd (nothing p)
+ranks_settle m (suc k) (suc zero) b p q = absurd (nothing p)
   where
     nothing : 2 * suc k ≤ 1 → ⊥
     nothing l = omega (arith, l)
-ranks_settle m plain (suc k) (suc (suc a)) zero p q = absurd (nothing q)
+ranks_settle m (suc k) (suc (suc a)) zero p q = absurd (nothing q)
   where
     nothing : 2 * suc k ≤ 0 → ⊥
     nothing l = omega (arith, l)
-ranks_settle m plain (suc k) (suc (suc a)) (suc zero) p q = absurd (nothing q)
+ranks_settle m (suc k) (suc (suc a)) (suc zero) p q = absurd (nothing q)
   where
     nothing : 2 * suc k ≤ 1 → ⊥
     nothing l = omega (arith, l)
-ranks_settle m plain (suc k) (suc (suc a)) (suc (suc b)) p q =
+ranks_settle m (suc k) (suc (suc a)) (suc (suc b)) p q =
     let less : 2 * k ≤ a = omega (arith, p) in
     let other : 2 * k ≤ b = omega (arith, q) in
     let more : 2 * k ≤ suc a = omega (arith, p) in
     let further : 2 * k ≤ suc b = omega (arith, q) in
-    next_rank m plain k a b (ranks_settle m plain k a b less other) (ranks_settle m plain k (suc a) (suc b) more further)
+    next_rank m k a b (ranks_settle m k a b less other) (ranks_settle m k (suc a) (suc b) more further)
 
 -- ---- all items
 
@@ -276,24 +274,24 @@ use_settles m u h name e = by_item (item_named name m.items) refl e
     by_item None q k = absurd (true≢false (sym k ∙ nothing u))
     by_item (Some x) q k = every_item_settles m name x q (not_true (is_proc_item (Some x)) (no_proc_use u h (Some x) k))
 
-pub uses_settle : (m : Module) → BindsNoConstant m → (a b : ℕ) → 2 * length m.items ≤ a → 2 * length m.items ≤ b → (u : Use) (name : List ℕ) → UseAlike (globals_within m a) (globals_within m b) u name
-uses_settle m plain a b p q u name = by_use u
+pub uses_settle : (m : Module) (a b : ℕ) → 2 * length m.items ≤ a → 2 * length m.items ≤ b → (u : Use) (name : List ℕ) → UseAlike (globals_within m a) (globals_within m b) u name
+uses_settle m a b p q u name = by_use u
   where
     by_use : (u : Use) → UseAlike (globals_within m a) (globals_within m b) u name
-    by_use AsValue = (ranks_settle m plain (length m.items) a b p q).uses AsValue name (use_settles m AsValue tt name)
-    by_use AsPattern = (ranks_settle m plain (length m.items) a b p q).uses AsPattern name (use_settles m AsPattern tt name)
-    by_use AsType = (ranks_settle m plain (length m.items) a b p q).uses AsType name (use_settles m AsType tt name)
-    by_use AsFunction = (ranks_settle m plain (length m.items) a b p q).uses AsFunction name (use_settles m AsFunction tt name)
+    by_use AsValue = (ranks_settle m (length m.items) a b p q).uses AsValue name (use_settles m AsValue tt name)
+    by_use AsPattern = (ranks_settle m (length m.items) a b p q).uses AsPattern name (use_settles m AsPattern tt name)
+    by_use AsType = (ranks_settle m (length m.items) a b p q).uses AsType name (use_settles m AsType tt name)
+    by_use AsFunction = (ranks_settle m (length m.items) a b p q).uses AsFunction name (use_settles m AsFunction tt name)
     by_use AsProc = tt
-    by_use AsEnum = (ranks_settle m plain (length m.items) a b p q).uses AsEnum name (use_settles m AsEnum tt name)
-    by_use AsStruct = (ranks_settle m plain (length m.items) a b p q).uses AsStruct name (use_settles m AsStruct tt name)
+    by_use AsEnum = (ranks_settle m (length m.items) a b p q).uses AsEnum name (use_settles m AsEnum tt name)
+    by_use AsStruct = (ranks_settle m (length m.items) a b p q).uses AsStruct name (use_settles m AsStruct tt name)
 
-pub instances_settle : (m : Module) → BindsNoConstant m → (a b : ℕ) → 2 * length m.items ≤ a → 2 * length m.items ≤ b → (i : Instance) (f : Function) → as_function (item_named i.name m.items) ≡ Some f
+pub instances_settle : (m : Module) (a b : ℕ) → 2 * length m.items ≤ a → 2 * length m.items ≤ b → (i : Instance) (f : Function) → as_function (item_named i.name m.items) ≡ Some f
     → ((globals_within m a).is_sound i ≡ (globals_within m b).is_sound i) × ((globals_within m a).is_unbroken i ≡ (globals_within m b).is_unbroken i)
-instances_settle m plain a b p q i f e =
+instances_settle m a b p q i f e =
     let named = function_is (item_named i.name m.items) f e in
     let here = every_item_settles m i.name (d.Function f) named refl in
-    let s = ranks_settle m plain (length m.items) a b p q in
+    let s = ranks_settle m (length m.items) a b p q in
     (s.known.sound i here, s.known.unbroken i here)
 
 -- ---- what a proc mentions

@@ -1,9 +1,10 @@
 -- Calls by what is known in two ways.
-use Rattle.std.proofs.Common.{◌≡◌, ◌++◌, ℕ, Bool, true, false, if◌then◌else◌, List, [], ◌∷◌, map, Option, Some, None, refl, ap, ◌∙◌, ◌||◌, sym, subst}
+use Rattle.std.proofs.Common.{◌≡◌, ◌++◌, ◌+◌, ℕ, suc, Bool, true, false, if◌then◌else◌, List, [], ◌∷◌, length, map, Option, Some, None, arith, refl, ap, ◌∙◌, ◌||◌, sym, subst}
 use Rattle.xb_span.specs.declared.fault.Fault.{Fault}
 use Rattle.xb_span.specs.declared.span.Span.{Span}
 use Rattle.dslx_tree.specs.declared.expr.Expr.{Expr, out-Expr}
 use Rattle.dslx_tree.specs.declared.ident.Ident.{Ident}
+use Rattle.dslx_tree.specs.declared.item.Definition.TheVariants as d
 use Rattle.dslx_tree.specs.declared.item.Function.{Function}
 use Rattle.dslx_tree.specs.declared.item.Parametric.{Parametric}
 use Rattle.dslx_meaning.specs.Callees.{AllOnes, CallKind, Calls, CountsLeading, CountsTrailing, Joins, Parity, Receives, ReceivesIf, Reverses, Sends, SendsIf, SomeOne, Updates}
@@ -16,13 +17,15 @@ use Rattle.dslx_meaning.specs.declared.ty.DslxType as ty
 use Rattle.dslx_meaning.specs.declared.value.DslxValue.{DslxValue}
 use Rattle.dslx_meaning.specs.Rules.AggregateRules.{wanted_faults, when_all}
 use Rattle.dslx_meaning.specs.Rules.CallRules as c
-use Rattle.dslx_meaning.specs.Rules.CallRules.{Before, parametric_type, ParametricArgument, NotGiven, ParametricArgsSeen, Resolved, Unknown, and_parametric, and_there, builtin_typing, call_typing, call_parametric_args, call_parts_faults, call_parts_reached, callee_size, channel_seen, default_value, function_call, given_parametric_args, has_right_count, inferred_by, is_refused, typing_there, known_before, maybe_inferred, not_given, nothing_there, number_before, parametric_args_for, parametric_args_seen, of_type, operand_faults, reached_by, resolved_value, right_call, token_typing, type_there, without_default, without_parametric_args, wrong_call, JudgedThere, call_type, default_there, is_wrong_parametric, value_before}
+use Rattle.dslx_meaning.specs.Rules.CallRules.{Before, parametric_type, ParametricArgument, NotGiven, ParametricArgsSeen, Number, Resolved, Unknown, Wrong, and_parametric, and_there, builtin_typing, call_typing, call_parametric_args, call_parts_faults, call_parts_reached, callee_size, channel_seen, default_value, function_call, given_parametric_args, has_right_count, inferred_by, is_refused, typing_there, known_before, maybe_inferred, not_given, nothing_there, number_before, parametric_args_for, parametric_args_seen, of_type, operand_faults, reached_by, resolved_value, right_call, token_typing, type_there, without_default, without_parametric_args, wrong_call, JudgedThere, call_type, default_there, is_wrong_parametric, value_before}
 use Rattle.dslx_meaning.specs.Rules.ConstantRules.{constant_of}
+use Rattle.dslx_meaning.specs.Rules.ModuleRules.{parametrics_of}
 use Rattle.dslx_meaning.specs.Rules.TypeRules.{unless_unit}
 use Rattle.dslx_meaning.specs.Rules.TypeEnvs.{ExprPair, Judgement, GlobalEnv, TypeEnv, all_alone, breaks_if, faults_of_all, name_of_expr, one_and, plus_size, reached_of_all, settled, size_of_all, span_of, types_of, Instance, Signature, breaks, has_broken, limited, size_if_typed, unless_broken}
 use Rattle.dslx_meaning.specs.Rules.Typings.{ArgPair}
-use Rattle.dslx_core.specs.Typing.Depends.Alike.{DeclaredAlike, FunctionAlike, GlobalsAgree, in_globals, CalleeAlikeFrom, TypesAlike}
-use Rattle.dslx_core.proofs.OnTyping.OnTyped.TypingRelations.{broken_first, broken_there}
+use Rattle.dslx_core.specs.Typing.Depends.Alike.{CalleeAlikeFrom, DeclaredAlike, FunctionAlike, GlobalsAgree, OfAllParametrics, TypesAlike, in_globals}
+use Rattle.dslx_core.proofs.OnTyping.OnTyped.TypingRelations.{broken_first, broken_there, none_some, same_some}
+use Rattle.dslx_core.proofs.Lemmas.Typing.TypingRelations.{function_is, item_so_named}
 use Rattle.dslx_core.proofs.OnTyping.OnDepends.Same.{EachSame, PartSame, all_alone_same, alone_same, frozen}
 
 -- ---- parametrics
@@ -86,9 +89,64 @@ parametric_args_same a b owner inferred maybe before (p ∷ ps) [] h =
 
 -- ---- calls of functions
 
-size_same : (a b : GlobalEnv) (f : Function) → FunctionAlike a b f → (o : Option (List DslxValue)) → callee_size a f.name.name o ≡ callee_size b f.name.name o
-size_same a b f h None = refl
-size_same a b f h (Some vs) = h.size vs
+-- a call's parametrics are as many as the item's
+bound_many : (known : GlobalEnv) (owner : List ℕ) (inferred : List Inferred) (maybe : List (List ℕ)) (before : Before) (ps : List Parametric) (gs : List ParametricArgument)
+    → length (parametric_args_seen known owner inferred maybe before ps gs).bound.values ≡ length ps + length before.values
+bound_many known owner inferred maybe before [] [] = omega arith
+bound_many known owner inferred maybe before [] (g ∷ gs) = omega arith
+bound_many known owner inferred maybe before (p ∷ ps) (g ∷ gs) =
+    let r = resolved_value (of_type (parametric_type known owner before) g.seen.value) in
+    let rest = bound_many known owner inferred maybe (and_parametric before r) ps gs in
+    rest ∙ one_more_value r
+  where
+    one_more_value : (r : Resolved) → length ps + length (and_parametric before r).values ≡ length (p ∷ ps) + length before.values
+    one_more_value (Number v) = omega arith
+    one_more_value Unknown = omega arith
+    one_more_value Wrong = omega arith
+bound_many known owner inferred maybe before (p ∷ ps) [] =
+    let r = (not_given known owner before p (parametric_type known owner before) (is_in p.name.name maybe) (parametric_args_for p.name.name inferred)).value in
+    let rest = bound_many known owner inferred maybe (and_parametric before r) ps [] in
+    rest ∙ one_more_value r
+  where
+    one_more_value : (r : Resolved) → length ps + length (and_parametric before r).values ≡ length (p ∷ ps) + length before.values
+    one_more_value (Number v) = omega arith
+    one_more_value Unknown = omega arith
+    one_more_value Wrong = omega arith
+
+-- so are its values, where all are known
+first_value : (r : Resolved) (o : Option (List DslxValue)) (vs : List DslxValue) (n : ℕ) → ((ws : List DslxValue) → o ≡ Some ws → length ws ≡ n) → value_before r o ≡ Some vs → length vs ≡ suc n
+first_value (Number v) (Some ws) vs n h e = sym (ap length (same_some (v ∷ ws) vs e)) ∙ ap suc (h ws refl)
+first_value (Number v) None vs n h e = none_some vs e
+first_value Unknown o vs n h e = none_some vs e
+first_value Wrong o vs n h e = none_some vs e
+
+values_many : (known : GlobalEnv) (owner : List ℕ) (inferred : List Inferred) (maybe : List (List ℕ)) (before : Before) (ps : List Parametric) (gs : List ParametricArgument) (vs : List DslxValue)
+    → (parametric_args_seen known owner inferred maybe before ps gs).values ≡ Some vs → length vs ≡ length ps
+values_many known owner inferred maybe before [] [] vs e = sym (ap length (same_some [] vs e))
+values_many known owner inferred maybe before [] (g ∷ gs) vs e = none_some vs e
+values_many known owner inferred maybe before (p ∷ ps) (g ∷ gs) vs e =
+    let r = resolved_value (of_type (parametric_type known owner before) g.seen.value) in
+    first_value r (parametric_args_seen known owner inferred maybe (and_parametric before r) ps gs).values vs (length ps) (values_many known owner inferred maybe (and_parametric before r) ps gs) e
+values_many known owner inferred maybe before (p ∷ ps) [] vs e =
+    let r = (not_given known owner before p (parametric_type known owner before) (is_in p.name.name maybe) (parametric_args_for p.name.name inferred)).value in
+    first_value r (parametric_args_seen known owner inferred maybe (and_parametric before r) ps []).values vs (length ps) (values_many known owner inferred maybe (and_parametric before r) ps []) e
+
+-- what a call needs of its parametrics
+record AreMany (known : GlobalEnv) (f : Function) (parametric_args : ParametricArgsSeen) : Type 0 where
+  all : OfAllParametrics known f.name.name parametric_args.bound.values
+  values : (vs : List DslxValue) → parametric_args.values ≡ Some vs → length vs ≡ length f.parametrics
+
+are_many : (known : GlobalEnv) (f : Function) (given : List ParametricArgument) (ts : List (Option DslxType)) → item_named f.name.name known.whole.items ≡ Some (d.Function f) → AreMany known f (call_parametric_args known f given ts)
+are_many known f given ts named = record {
+  all =
+      let none_before : length f.parametrics + 0 ≡ length f.parametrics = omega arith in
+      bound_many known f.name.name (inferred_by f.arguments ts) (maybe_inferred f.arguments ts) (known_before []) f.parametrics given ∙ none_before ∙ ap (λ o. length (parametrics_of o)) (sym named);
+  values = λ vs e. values_many known f.name.name (inferred_by f.arguments ts) (maybe_inferred f.arguments ts) (known_before []) f.parametrics given vs e;
+}
+
+size_same : (a b : GlobalEnv) (f : Function) → FunctionAlike a b f → (o : Option (List DslxValue)) → ((vs : List DslxValue) → o ≡ Some vs → length vs ≡ length f.parametrics) → callee_size a f.name.name o ≡ callee_size b f.name.name o
+size_same a b f h None k = refl
+size_same a b f h (Some vs) k = h.size vs (k vs refl)
 
 abbrev right_by : Span → Function → List ParametricArgument → List Judgement → List Fault → ParametricArgsSeen → Option DslxType → List Fault → Option ℕ → Judgement
 right_by span f given js cyclic parametric_args result operands size =
@@ -97,10 +155,10 @@ right_by span f given js cyclic parametric_args result operands size =
     (call_parts_reached given js ++ (typing_there cyclic parametric_args).reached ++ reached_by (is_refused cyclic parametric_args) f.name.name parametric_args.values)
     (one_and (plus_size (size_of_all js) size))
 
-right_same : (span : Span) (context : TypeEnv) (other : GlobalEnv) (f : Function) (given : List ParametricArgument) (es : List ExprPair) (js : List Judgement) (cyclic : List Fault) (parametric_args : ParametricArgsSeen) → FunctionAlike context.known other f
+right_same : (span : Span) (context : TypeEnv) (other : GlobalEnv) (f : Function) (given : List ParametricArgument) (es : List ExprPair) (js : List Judgement) (cyclic : List Fault) (parametric_args : ParametricArgsSeen) → FunctionAlike context.known other f → AreMany context.known f parametric_args
     → right_call span context f given es js cyclic parametric_args ≡ right_call span (in_globals context other) f given es js cyclic parametric_args
-right_same span context other f given es js cyclic parametric_args h = λ i.
-    right_by span f given js cyclic parametric_args (h.declared.signature parametric_args.bound.values i).result (operand_faults (h.declared.signature parametric_args.bound.values i).arguments es js) (size_same context.known other f h parametric_args.values i)
+right_same span context other f given es js cyclic parametric_args h k = λ i.
+    right_by span f given js cyclic parametric_args (h.declared.signature parametric_args.bound.values k.all i).result (operand_faults (h.declared.signature parametric_args.bound.values k.all i).arguments es js) (size_same context.known other f h parametric_args.values k.values i)
 
 abbrev cyclic_call : Bool → Span → List Fault
 cyclic_call cyclic span = breaks_if cyclic 3 span
@@ -182,13 +240,13 @@ refused_broken span given es js faults wrong signature =
     broken_first (((parts ++ faults) ++ []) ++ breaks_if wrong 10 span) operands (broken_first ((parts ++ faults) ++ []) (breaks_if wrong 10 span)
     (broken_first (parts ++ faults) [] (broken_first parts faults (broken_there (call_parts_faults given js) [] 3 span))))
 
-refused_same : (span : Span) (context : TypeEnv) (other : GlobalEnv) (f : Function) (given : List ParametricArgument) (es : List ExprPair) (js : List Judgement) (x y : ParametricArgsSeen) → TypesAlike context.known other f.name.name → ArgsAlike x y
+refused_same : (span : Span) (context : TypeEnv) (other : GlobalEnv) (f : Function) (given : List ParametricArgument) (es : List ExprPair) (js : List Judgement) (x y : ParametricArgsSeen) → TypesAlike context.known other f.name.name → ArgsAlike x y → AreMany context.known f x
     → right_call span context f given es js (breaks 3 span ∷ []) x ≡ right_call span (in_globals context other) f given es js (breaks 3 span ∷ []) y
-refused_same span context other f given es js x y h k =
+refused_same span context other f given es js x y h k l =
     let known = context.known in
     let owner = f.name.name in
     let reached = (call_parts_reached given js ++ []) ++ [] in
-    let signature : known.signature_in owner x.bound.values ≡ other.signature_in owner y.bound.values = h.signature x.bound.values ∙ ap (λ (b : Before). other.signature_in owner b.values) k.bound in
+    let signature : known.signature_in owner x.bound.values ≡ other.signature_in owner y.bound.values = h.signature x.bound.values l.all ∙ ap (λ (b : Before). other.signature_in owner b.values) k.bound in
     broken_same span (call_type known f x js) None (refused_faults span given es js x.faults x.is_wrong (known.signature_in owner x.bound.values)) reached (one_and (plus_size (size_of_all js) (callee_size known owner x.values))) None
     (refused_broken span given es js x.faults x.is_wrong (known.signature_in owner x.bound.values))
     ∙ (λ i. settled span None (refused_faults span given es js (k.faults i) (k.is_wrong i) (signature i)) reached None)
@@ -207,6 +265,12 @@ function_same P span context other name given es js k h =
     seen : GlobalEnv → Function → ParametricArgsSeen
     seen known f = call_parametric_args known f given (types_of js)
 
+    many : (f : Function) → as_function (item_named name.name context.known.whole.items) ≡ Some f → AreMany context.known f (seen context.known f)
+    many f q =
+        let is = function_is (item_named name.name context.known.whole.items) f q in
+        let so_named : f.name.name ≡ name.name = item_so_named context.known.whole.items name.name (d.Function f) is in
+        are_many context.known f given (types_of js) (ap (λ n. item_named n context.known.whole.items) so_named ∙ is)
+
     cyclic : GlobalEnv → List Fault
     cyclic known = breaks_if (known.is_cyclic context.owner name.name) 3 span
 
@@ -217,10 +281,10 @@ function_same P span context other name given es js k h =
         → right_call span context f given es js (breaks_if c 3 span) (seen context.known f) ≡ right_call span (in_globals context other) f given es js (breaks_if c 3 span) (seen other f)
     by_cycle f q true e =
         refused_same span context other f given es js (seen context.known f) (seen other f) (h.types f q)
-        (args_alike context.known other f.name.name (inferred_by f.arguments (types_of js)) (maybe_inferred f.arguments (types_of js)) (known_before []) f.parametrics given (h.types f q))
+        (args_alike context.known other f.name.name (inferred_by f.arguments (types_of js)) (maybe_inferred f.arguments (types_of js)) (known_before []) f.parametrics given (h.types f q)) (many f q)
     by_cycle f q false e =
         let r = h.function e f q in
-        right_same span context other f given es js [] (seen context.known f) r
+        right_same span context other f given es js [] (seen context.known f) r (many f q)
         ∙ (λ i. right_call span (in_globals context other) f given es js [] (parametric_args_same context.known other f.name.name (inferred_by f.arguments (types_of js)) (maybe_inferred f.arguments (types_of js)) (known_before []) f.parametrics given r.declared i))
 
     by_count : (f : Function) → as_function (item_named name.name context.known.whole.items) ≡ Some f → (b : Bool)

@@ -23,12 +23,18 @@ use Rattle.dslx_meaning.specs.Rules.Mentions.{item_reaches}
 use Rattle.dslx_meaning.specs.Rules.PatternRules.{both_patterns, first_part_type, is_there, name_pattern, one_value, other_part_types, parts_typing, pattern_alone}
 use Rattle.dslx_core.specs.Typing.Depends.Alike.{GlobalsAgree, in_globals}
 use Rattle.dslx_core.proofs.OnTyping.OnDepends.Same.{PartSame, alone_same}
+use Rattle.dslx_core.proofs.OnTyping.OnDepends.Scopes.{LocalsKeep}
+use Rattle.dslx_core.proofs.OnTyping.OnSized.Parts.{both_tests}
 
 -- ---- patterns
 
 -- a pattern, against whatever stands there
 abbrev pub PatternSame : TypeEnv → GlobalEnv → PatternTyping → Type 0
 PatternSame context other p = (may_fail : Bool) (t : Option DslxType) (names : List (List ℕ)) (locals : List Typed) → p may_fail context t names locals ≡ p may_fail (in_globals context other) t names locals
+
+-- a pattern adds to the locals that it stands behind
+abbrev pub PatternKeeps : TypeEnv → PatternTyping → Type 0
+PatternKeeps context p = (may_fail : Bool) (t : Option DslxType) (names : List (List ℕ)) (locals : List Typed) → LocalsKeep locals (p may_fail context t names locals).locals
 
 abbrev pub EachPatternSame : TypeEnv → GlobalEnv → List PatternPair → Type 0
 EachPatternSame context other [] = Unit {0}
@@ -62,17 +68,17 @@ alternatives_same context other t (p ∷ ps) h =
     let rest = alternatives_same context other t ps h.1 in
     (λ i. with_alternative (h.0 true t [] before.locals i) before) ∙ (λ i. with_alternative (one_alternative (in_globals context other) t p (rest i)) (rest i))
 
--- the patterns of an arm, where they are tried on values, and all of it against values of a type
+-- the patterns of an arm, where all of them is known and they are tried on values, and all of it against values of a type
 pub record ArmSame (context : TypeEnv) (other : GlobalEnv) (a : ArmSeen) : Type 0 where
-  pub fits : (v : DslxValue) → list_any (λ (p : PatternPair). is_there (fitted p.0 v (constant_env context))) a.patterns ≡ list_any (λ (p : PatternPair). is_there (fitted p.0 v (constant_env (in_globals context other)))) a.patterns
+  pub fits : (t : Option DslxType) → (alternatives_seen context t a.patterns).is_known ≡ true → (v : DslxValue) → list_any (λ (p : PatternPair). is_there (fitted p.0 v (constant_env context))) a.patterns ≡ list_any (λ (p : PatternPair). is_there (fitted p.0 v (constant_env (in_globals context other)))) a.patterns
   pub typing : (t : Option DslxType) → arm_typing context t a ≡ arm_typing (in_globals context other) t a
 
-pub arm_same : (context : TypeEnv) (other : GlobalEnv) (t : Option DslxType) (a : ArmSeen) → EachPatternSame context other a.patterns → ((locals : List Typed) → PartSame (with_typed context locals) other a.value)
+pub arm_same : (context : TypeEnv) (other : GlobalEnv) (t : Option DslxType) (a : ArmSeen) → EachPatternSame context other a.patterns → PartSame (with_typed context (alternatives_seen context t a.patterns).locals) other a.value
     → arm_typing context t a ≡ arm_typing (in_globals context other) t a
 arm_same context other t a h value =
     let seen = alternatives_same context other t a.patterns h in
     let first = alternatives_seen context t a.patterns in
-    (λ i. record { patterns = a.patterns; seen = first; value = alone_same (with_typed context first.locals) other a.value (value first.locals) i })
+    (λ i. record { patterns = a.patterns; seen = first; value = alone_same (with_typed context first.locals) other a.value value i })
     ∙ (λ i. record { patterns = a.patterns; seen = seen i; value = alone (with_typed (in_globals context other) (seen i).locals) a.value })
 
 abbrev pub EachArmSame : TypeEnv → GlobalEnv → List ArmSeen → Type 0
@@ -85,10 +91,13 @@ arms_same context other t (a ∷ as') h = λ i. h.0.typing t i ∷ arms_same con
 
 -- ---- what is matched
 
-matched_same : (context : TypeEnv) (other : GlobalEnv) (t : Option DslxType) (as' : List ArmSeen) → EachArmSame context other as' → (v : DslxValue)
+matched_same : (context : TypeEnv) (other : GlobalEnv) (t : Option DslxType) (as' : List ArmSeen) → EachArmSame context other as' → list_all (λ (a : ArmTyping). a.seen.is_known && is_empty a.seen.faults) (map (arm_typing context t) as') ≡ true → (v : DslxValue)
     → is_matched context (map (arm_typing context t) as') v ≡ is_matched (in_globals context other) (map (arm_typing context t) as') v
-matched_same context other t [] h v = refl
-matched_same context other t (a ∷ as') h v = λ i. h.0.fits v i || matched_same context other t as' h.1 v i
+matched_same context other t [] h k v = refl
+matched_same context other t (a ∷ as') h k v =
+    let seen = alternatives_seen context t a.patterns in
+    let r = both_tests (seen.is_known && is_empty seen.faults) (list_all (λ (x : ArmTyping). x.seen.is_known && is_empty x.seen.faults) (map (arm_typing context t) as')) k in
+    λ i. h.0.fits t (both_tests seen.is_known (is_empty seen.faults) r.0).0 v i || matched_same context other t as' h.1 r.1 v i
 
 words_same : (context : TypeEnv) (other : GlobalEnv) (js : List ArmTyping) (t : DslxType) (w n : ℕ) → ((v : DslxValue) → is_matched context js v ≡ is_matched (in_globals context other) js v)
     → all_words_match context js t w n ≡ all_words_match (in_globals context other) js t w n
@@ -161,9 +170,14 @@ match_same P span context other e arms k enums h each =
   where
     wrong_same : (t : Option DslxType) → not_exhaustive context (map (arm_typing context t) arms) t ≡ not_exhaustive (in_globals context other) (map (arm_typing context t) arms) t
     wrong_same None = refl
-    wrong_same (Some t) =
-        let js = map (arm_typing context (Some t)) arms in
-        λ i. list_all (λ (a : ArmTyping). a.seen.is_known && is_empty a.seen.faults) js && not (exhaustive_same P context other js t k enums (matched_same context other (Some t) arms each) i)
+    wrong_same (Some t) = by_known (list_all (λ (a : ArmTyping). a.seen.is_known && is_empty a.seen.faults) js) refl
+      where
+        js : List ArmTyping
+        js = map (arm_typing context (Some t)) arms
+
+        by_known : (b : Bool) → list_all (λ (a : ArmTyping). a.seen.is_known && is_empty a.seen.faults) js ≡ b → (b && not (is_exhaustive context js t)) ≡ (b && not (is_exhaustive (in_globals context other) js t))
+        by_known false q = refl
+        by_known true q = ap not (exhaustive_same P context other js t k enums (matched_same context other (Some t) arms each q))
 
 -- ---- statements
 
@@ -192,13 +206,16 @@ loop_behind context index acc body from to start written =
     loop_of from to start written i a (block_alone (with_typed context a.locals) body)
 
 pub loop_same : (context : TypeEnv) (other : GlobalEnv) (from to : ConstantSeen) (start : Judgement) (written : Option Judgement) (index acc : PatternPair) (body : BlockPair)
-    → PatternSame context other index.1 → ((locals : List Typed) → PatternSame (with_typed context locals) other acc.1) → ((locals : List Typed) → block_alone (with_typed context locals) body ≡ block_alone (with_typed (in_globals context other) locals) body)
+    → PatternSame context other index.1 → ((locals : List Typed) → LocalsKeep context.locals locals → PatternSame (with_typed context locals) other acc.1)
+    → ((locals : List Typed) → LocalsKeep context.locals locals → block_alone (with_typed context locals) body ≡ block_alone (with_typed (in_globals context other) locals) body)
+    → PatternKeeps context index.1 → ((locals : List Typed) → PatternKeeps (with_typed context locals) acc.1)
     → loop_behind context index acc body from to start written ≡ loop_behind (in_globals context other) index acc body from to start written
-loop_same context other from to start written index acc body hi ha hb =
+loop_same context other from to start written index acc body hi ha hb ki ka =
     let i = pattern_alone false context (same_ends from.judgement.ty to.judgement.ty) index in
     let a = pattern_alone false (with_typed context i.locals) start.ty acc in
-    let body_same = hb a.locals in
-    let acc_same = ha i.locals false start.ty [] i.locals in
+    let first = ki false (same_ends from.judgement.ty to.judgement.ty) [] context.locals in
+    let body_same = hb a.locals (λ name q. ka i.locals false start.ty [] i.locals name (first name q)) in
+    let acc_same = ha i.locals first false start.ty [] i.locals in
     let index_same = hi false (same_ends from.judgement.ty to.judgement.ty) [] context.locals in
     (λ d. loop_of from to start written i a (body_same d))
     ∙ (λ d. loop_of from to start written i (acc_same d) (block_alone (with_typed (in_globals context other) (acc_same d).locals) body))

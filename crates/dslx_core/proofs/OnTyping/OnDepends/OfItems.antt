@@ -1,5 +1,5 @@
 -- What is known of items by longer chains, where the same is known of those that they mention.
-use Rattle.std.proofs.Common.{◌≡◌, ◌&&◌, ◌||◌, ◌++◌, ℕ, zero, suc, Bool, true, false, not, if◌then◌else◌, List, [], ◌∷◌, map, length, Option, Some, None, refl, sym, ap, ◌∙◌}
+use Rattle.std.proofs.Common.{◌≡◌, ◌&&◌, ◌||◌, ◌++◌, ℕ, zero, suc, Bool, true, false, not, if◌then◌else◌, List, [], ◌∷◌, map, length, Option, Some, None, arith, refl, sym, ap, ◌∙◌}
 use mathlib.Core.Bool.{true≢false}
 use Rattle.std.specs.Prelude.{flat_map}
 use Rattle.std.specs.Str.{bytes_eq}
@@ -21,15 +21,14 @@ use Rattle.dslx_tree.specs.declared.item.Module.{Module}
 use Rattle.dslx_tree.specs.declared.item.Parametric.{Parametric}
 use Rattle.dslx_tree.specs.declared.item.Struct.{Struct}
 use Rattle.dslx_tree.specs.declared.type_expr.TypeExpr.{TypeExpr}
-use Rattle.dslx_meaning.specs.Environment.{Given}
-use Rattle.dslx_meaning.specs.Items.{call_of, enum_member, is_constant_item, item_named, member_named, name_of_field, parametric_args_bound}
-use Rattle.dslx_meaning.specs.Lists.{all_some, and_then}
-use Rattle.dslx_meaning.specs.Operators.{number_value}
+use Rattle.dslx_meaning.specs.Environment.{Given, given_in}
+use Rattle.dslx_meaning.specs.Items.{call_of, enum_member, is_constant_item, item_named, member_named, name_of_field, parametric_args_bound, with_number}
+use Rattle.dslx_meaning.specs.Lists.{all_some, and_then, is_in}
 use Rattle.dslx_meaning.specs.declared.ty.DslxType.{DslxType}
 use Rattle.dslx_meaning.specs.declared.ty.DslxType as ty
 use Rattle.dslx_meaning.specs.declared.value.UntypedLiteral.{UntypedLiteral}
 use Rattle.dslx_meaning.specs.declared.value.DslxValue.{DslxValue}
-use Rattle.dslx_meaning.specs.Rules.AggregateRules.{range_faults, wanted_faults}
+use Rattle.dslx_meaning.specs.Rules.AggregateRules.{range_faults, wanted_faults, untyped_value}
 use Rattle.dslx_meaning.specs.Rules.TypeRules.{unless_unit}
 use Rattle.dslx_meaning.specs.Rules.ConstantRules.{ConstantSeen, constant_of, is_empty}
 use Rattle.dslx_meaning.specs.Rules.ItemRules.{ConstantFound, Found, TypeFound, alias_seen, and_found, annotation_typing, arguments_found, arguments_typed, base_if_bits, body_typing, bound_with, constant_seen, default_found, enum_member_value, enum_of_base, enum_seen, fields_found, found_in, function_seen, has_equal_values, is_annotated, item_type_env, typing_of_inner, typing_of_type, member_constant, member_values, members_found, number_at, parametric_args_behind, only_faults, parametrics_found, result_typing, struct_seen}
@@ -37,16 +36,19 @@ use Rattle.dslx_meaning.specs.Rules.TypeEnvs.{ExprPair, Instance, Judgement, Glo
 use Rattle.dslx_meaning.specs.Rules.Mentions.{Use, AsValue, AsEnum, Mention, definition_mentions, expr_if, field_names, fields_mentions, is_of_use, item_reaches, mentioned, mentioned_in_block, mentioned_in_type, mentions_of, names_mentioned, parametric_names, parametrics_mentions, reaches_within, type_if}
 use Rattle.dslx_meaning.specs.Rules.ModuleRules.{declared_type, default_if, found_of_instance, globals_over, sound_instance, unbroken_instance}
 use Rattle.dslx_meaning.specs.Rules.NameRules.{listed_name, local_name}
+use Rattle.dslx_meaning.specs.Rules.PatternRules.{is_there}
 use Rattle.dslx_meaning.specs.Rules.NodeRules.{block_pair, expr_pair, type_pair}
 use Rattle.dslx_meaning.specs.Rules.OperatorRules.{is_bits, unless_type}
 use Rattle.dslx_core.specs.Typing.TypingRelations.Reached.{AllNamed, IsClosed, MentionsReach}
 use Rattle.dslx_core.proofs.Lemmas.Typing.TypingRelations.{block_of_text_reaches}
 use Rattle.dslx_core.proofs.Lemmas.Typing.Laws.{Agreeing, call_one}
-use Rattle.dslx_core.specs.Typing.Depends.Alike.{DeclaredAlike, GlobalsAgree, MentionsAlike, NamesAlike, SeesAlike, UseAlike}
-use Rattle.dslx_core.specs.Typing.Depends.Settled.{AreNoConstants}
-use Rattle.dslx_core.proofs.OnTyping.OnDepends.Parametrics.{declared_alike}
+use Rattle.dslx_core.specs.Typing.Depends.Alike.{DeclaredAlike, GlobalsAgree, HiddenAlike, MentionsAlike, NamesAlike, SeesAlike, SeesFrom, UseAlike}
+use Rattle.dslx_core.proofs.OnTyping.OnDepends.Bindings.{AreNoConstants}
+use Rattle.dslx_core.proofs.OnTyping.OnDepends.Parametrics.{AreBound, declared_alike}
+use Rattle.dslx_core.proofs.OnTyping.OnDepends.Rebound.{in_second}
+use Rattle.dslx_core.proofs.OnTyping.OnTyped.TypingRelations.{or_false}
 use Rattle.dslx_core.proofs.OnTyping.OnDepends.Joined.{block_of_text_alike, expression_alike, written_type_alike}
-use Rattle.dslx_core.proofs.OnTyping.OnDepends.Scopes.{constant_alike, mentions_agree, names_join, seen_from}
+use Rattle.dslx_core.proofs.OnTyping.OnDepends.Scopes.{constant_alike, hidden_alike, mentions_agree, names_join, seen_from}
 use Rattle.dslx_core.proofs.OnTyping.OnDepends.Same.{all_alike, constant_same, inner_same, limited_by}
 
 -- what is known in two ways of items whose names pass a test: the same, and it reaches such items alone
@@ -132,7 +134,7 @@ default_by t e c = record { faults = c.judgement.faults ++ wanted_faults (out-Ex
 -- a member of an enum, which may be a number without a type
 abbrev number_in : Option DslxType → UntypedLiteral → Option DslxValue
 number_in None number = None
-number_in (Some t) number = number_value t number
+number_in (Some t) number = untyped_value t number
 
 abbrev of_base : Option DslxType → ConstantSeen → List Fault → ConstantFound
 of_base base c wrong = record { found = record { faults = c.judgement.faults ++ wrong; reached = c.judgement.reached }; value = and_then base (λ t. if is_empty wrong then c.value else None) }
@@ -147,24 +149,17 @@ module _ (T : List ℕ → List ℕ → Bool) (m : Module) where
   abbrev Mentioned : List ℕ → List Mention → Type 0
   Mentioned owner ms = list_all (T owner) (names_mentioned m ms) ≡ true
 
-  -- parametrics that are left behind these names, and what they mention
-  pub record LeftAlike (a b : GlobalEnv) (owner : List ℕ) (bound : List (List ℕ)) (left : List Parametric) : Type 0 where
-    pub plain : NamesAlike a b bound
-    pub others : NamesAlike a b (parametric_names left)
-    pub mentions : Mentioned owner (parametrics_mentions left bound)
+  -- parametrics that are left behind these names, by what they mention
+  abbrev pub LeftMentioned : List ℕ → List (List ℕ) → List Parametric → Type 0
+  LeftMentioned owner bound left = Mentioned owner (parametrics_mentions left bound)
 
-  pub left_next : (a b : GlobalEnv) (owner : List ℕ) (bound : List (List ℕ)) (p : Parametric) (ps : List Parametric) → LeftAlike a b owner bound (p ∷ ps) → LeftAlike a b owner (p.name.name ∷ bound) ps
-  left_next a b owner bound p ps h = record {
-    plain = (h.others.0, h.plain);
-    others = h.others.1;
-    mentions = (den_parts (T owner) m (mentioned_in_type p.ty bound ++ expr_if p.default bound) (parametrics_mentions ps (p.name.name ∷ bound)) h.mentions).1;
-  }
+  pub left_mentioned : (owner : List ℕ) (bound : List (List ℕ)) (p : Parametric) (ps : List Parametric) → LeftMentioned owner bound (p ∷ ps) → LeftMentioned owner (p.name.name ∷ bound) ps
+  left_mentioned owner bound p ps h = (den_parts (T owner) m (mentioned_in_type p.ty bound ++ expr_if p.default bound) (parametrics_mentions ps (p.name.name ∷ bound)) h).1
 
-  -- the first one's type and default
-  pub first_den : (a b : GlobalEnv) (owner : List ℕ) (bound : List (List ℕ)) (p : Parametric) (ps : List Parametric) → LeftAlike a b owner bound (p ∷ ps) → Mentioned owner (mentioned_in_type p.ty bound) × Mentioned owner (expr_if p.default bound)
-  first_den a b owner bound p ps h =
+  pub first_mentioned : (owner : List ℕ) (bound : List (List ℕ)) (p : Parametric) (ps : List Parametric) → LeftMentioned owner bound (p ∷ ps) → Mentioned owner (mentioned_in_type p.ty bound) × Mentioned owner (expr_if p.default bound)
+  first_mentioned owner bound p ps h =
       den_parts (T owner) m (mentioned_in_type p.ty bound) (expr_if p.default bound)
-      (den_parts (T owner) m (mentioned_in_type p.ty bound ++ expr_if p.default bound) (parametrics_mentions ps (p.name.name ∷ bound)) h.mentions).0
+      (den_parts (T owner) m (mentioned_in_type p.ty bound ++ expr_if p.default bound) (parametrics_mentions ps (p.name.name ∷ bound)) h).0
 
   -- what a function mentions, by its parts
   pub record FunctionParts (f : Function) : Type 0 where
@@ -185,6 +180,71 @@ module _ (T : List ℕ → List ℕ → Bool) (m : Module) where
       let t = den_parts test m one two r.0 in
       record { parametrics = t.0; arguments = t.1; result = r.1; body = q.1 }
 
+-- ---- what is bound in an instance
+
+-- what is given stays so
+kept_given : (ps : List Parametric) (vs : List DslxValue) (so_far : List Given) (name : List ℕ) → is_there (given_in name so_far) ≡ true → is_there (given_in name (parametric_args_bound so_far ps vs)) ≡ true
+kept_given [] vs so_far name h = h
+kept_given (p ∷ ps) [] so_far name h = h
+kept_given (p ∷ ps) (v ∷ vs) so_far name h = kept_given ps vs (with_number so_far p v) name (by_first (bytes_eq name p.name.name))
+  where
+    by_first : (b : Bool) → is_there (if b then Some v else given_in name so_far) ≡ true
+    by_first true = refl
+    by_first false = h
+
+each_given : (ps : List Parametric) (vs : List DslxValue) (so_far : List Given) → length vs ≡ length ps → (name : List ℕ) → is_in name (parametric_names ps) ≡ true → is_there (given_in name (parametric_args_bound so_far ps vs)) ≡ true
+each_given [] vs so_far many name q = absurd (true≢false (sym q))
+each_given (p ∷ ps) [] so_far many name q = absurd (none_many (length ps) many)
+  where
+    none_many : (n : ℕ) → 0 ≡ suc n → ⊥
+    none_many n e = omega (arith, e)
+each_given (p ∷ ps) (v ∷ vs) so_far many name q = by_first (bytes_eq name p.name.name) refl q (each_given ps vs (with_number so_far p v) fewer name)
+  where
+    fewer : length vs ≡ length ps
+    fewer = omega (arith, many)
+
+    by_first : (b : Bool) → bytes_eq name p.name.name ≡ b → (if b then true else is_in name (parametric_names ps)) ≡ true → (is_in name (parametric_names ps) ≡ true → is_there (given_in name (parametric_args_bound (with_number so_far p v) ps vs)) ≡ true)
+        → is_there (given_in name (parametric_args_bound (with_number so_far p v) ps vs)) ≡ true
+    by_first true e g rest = kept_given ps vs (with_number so_far p v) name (λ i. is_there (if e i then Some v else given_in name so_far))
+    by_first false e g rest = rest g
+
+pub args_bound : (ps : List Parametric) (vs : List DslxValue) → length vs ≡ length ps → AreBound (parametric_names ps) (parametric_args_bound [] ps vs) []
+args_bound ps vs many name q = λ i. each_given ps vs [] many name q i || false
+
+-- an argument is a local
+kept_local : (context : TypeEnv) (so_far : List Typed) (fs : List Field) (name : List ℕ) → is_in name (map (λ (l : Typed). l.name) so_far) ≡ true → is_in name (map (λ (l : Typed). l.name) (arguments_typed context so_far fs)) ≡ true
+kept_local context so_far [] name h = h
+kept_local context so_far (f ∷ fs) name h = kept_local context (record { name = f.name.name; ty = (typing_of_inner context f.ty).ty } ∷ so_far) fs name (by_first (bytes_eq name f.name.name))
+  where
+    by_first : (b : Bool) → (if b then true else is_in name (map (λ (l : Typed). l.name) so_far)) ≡ true
+    by_first true = refl
+    by_first false = h
+
+each_local : (context : TypeEnv) (so_far : List Typed) (fs : List Field) (name : List ℕ) → is_in name (field_names fs) ≡ true → is_in name (map (λ (l : Typed). l.name) (arguments_typed context so_far fs)) ≡ true
+each_local context so_far [] name q = absurd (true≢false (sym q))
+each_local context so_far (f ∷ fs) name q = by_first (bytes_eq name f.name.name) refl q (each_local context more fs name)
+  where
+    more : List Typed
+    more = record { name = f.name.name; ty = (typing_of_inner context f.ty).ty } ∷ so_far
+
+    by_first : (b : Bool) → bytes_eq name f.name.name ≡ b → (if b then true else is_in name (field_names fs)) ≡ true → (is_in name (field_names fs) ≡ true → is_in name (map (λ (l : Typed). l.name) (arguments_typed context more fs)) ≡ true)
+        → is_in name (map (λ (l : Typed). l.name) (arguments_typed context more fs)) ≡ true
+    by_first true e g rest = kept_local context more fs name (λ i. if e i then true else is_in name (map (λ (l : Typed). l.name) so_far))
+    by_first false e g rest = rest g
+
+-- each argument and each parametric is bound in the body
+all_there : (context : TypeEnv) (fs : List Field) (names : List (List ℕ)) (given : List Given) (name : List ℕ) → is_in name (field_names fs ++ names) ≡ true → AreBound names given []
+    → (is_in name (map (λ (l : Typed). l.name) (arguments_typed context [] fs)) || (is_there (given_in name given) || false)) ≡ true
+all_there context fs names given name q w = by_field (is_in name (field_names fs)) refl
+  where
+    either : (b c : Bool) → c ≡ true → (b || c) ≡ true
+    either true c e = refl
+    either false c e = e
+
+    by_field : (b : Bool) → is_in name (field_names fs) ≡ b → (is_in name (map (λ (l : Typed). l.name) (arguments_typed context [] fs)) || (is_there (given_in name given) || false)) ≡ true
+    by_field true e = λ i. each_local context [] fs name e i || (is_there (given_in name given) || false)
+    by_field false e = either (is_in name (map (λ (l : Typed). l.name) (arguments_typed context [] fs))) (is_there (given_in name given) || false) (w name (in_second name (field_names fs) names e q))
+
 -- ---- parts of items that mention such alone as both know alike
 
 abbrev pub mentions_pass : (List ℕ → Bool) → Module → List ℕ → Bool
@@ -203,10 +263,6 @@ module _ (P : List ℕ → Bool) (m : Module) (a b : GlobalEnv) (closed : IsClos
 
   pub plain_at : (name : List ℕ) → is_constant_item (item_named name m.items) ≡ false → a.items.constant name ≡ b.items.constant name
   plain_at name e = s.uses AsValue name (λ u. absurd (true≢false (sym u ∙ value_use (item_named name m.items) ∙ e)))
-
-  pub plain_alike : (names : List (List ℕ)) → AreNoConstants m names → NamesAlike a b names
-  plain_alike [] h = tt
-  plain_alike (n ∷ ns) h = (plain_at n h.0, plain_alike ns h.1)
 
   -- where each enum that the item reaches passes
   pub sees_where : (owner : List ℕ) → ((name : List ℕ) → item_reaches a.whole owner name ≡ true → is_of_use AsEnum (item_named name m.items) ≡ true → P name ≡ true) → (bound : List (List ℕ)) → NamesAlike a b bound
@@ -241,19 +297,55 @@ module _ (P Q : List ℕ → Bool) (T : List ℕ → List ℕ → Bool) (m : Mod
 
   -- ---- parts
 
+  -- in this type environment
+  seen : (owner : List ℕ) → Own owner → (bound : List (List ℕ)) (ms : List Mention) → ExprDen owner ms → (parametric_args : List Given) (unknown : List (List ℕ)) (locals : List Typed)
+      → HiddenAlike bound (type_env_at a owner parametric_args unknown locals) b → SeesFrom P bound (type_env_at a owner parametric_args unknown locals) b ms
+  seen owner own bound ms h parametric_args unknown locals n =
+      let x = s.sees owner own [] tt ms h in
+      record { known = x.known; enums = x.enums; hidden = n; reach = x.reach; alike = x.alike }
+
+  -- what is bound to a value or unknown hides its constant
+  pub hidden_behind : (owner : List ℕ) (bound : List (List ℕ)) (parametric_args : List Given) (unknown : List (List ℕ)) (locals : List Typed) → AreBound bound parametric_args unknown → HiddenAlike bound (type_env_at a owner parametric_args unknown locals) b
+  hidden_behind owner bound parametric_args unknown locals w name q free =
+      absurd (true≢false (sym (w name q) ∙ (or_false (is_in name (map (λ (l : Typed). l.name) locals)) (is_there (given_in name parametric_args) || is_in name unknown) free).1))
+
+  pub type_behind : (owner : List ℕ) → Own owner → (bound : List (List ℕ)) (t : TypeExpr) → ExprDen owner (mentioned_in_type t bound) → (parametric_args : List Given) (unknown : List (List ℕ)) (locals : List Typed)
+      → HiddenAlike bound (type_env_at a owner parametric_args unknown locals) b → typing_of_type (type_env_at a owner parametric_args unknown locals) t ≡ typing_of_type (type_env_at b owner parametric_args unknown locals) t
+  type_behind owner own bound t h parametric_args unknown locals n =
+      written_type_alike P t bound (type_env_at a owner parametric_args unknown locals) b (seen owner own bound (mentioned_in_type t bound) h parametric_args unknown locals n)
+
+  pub inner_behind : (owner : List ℕ) → Own owner → (bound : List (List ℕ)) (t : TypeExpr) → ExprDen owner (mentioned_in_type t bound) → (parametric_args : List Given) (unknown : List (List ℕ)) (locals : List Typed)
+      → HiddenAlike bound (type_env_at a owner parametric_args unknown locals) b → typing_of_inner (type_env_at a owner parametric_args unknown locals) t ≡ typing_of_inner (type_env_at b owner parametric_args unknown locals) t
+  inner_behind owner own bound t h parametric_args unknown locals n = inner_same (type_env_at a owner parametric_args unknown locals) b (type_pair t) (type_behind owner own bound t h parametric_args unknown locals n)
+
+  pub constant_behind : (owner : List ℕ) → Own owner → (bound : List (List ℕ)) (e : Expr) → ExprDen owner (mentioned e bound) → (parametric_args : List Given) (unknown : List (List ℕ)) (locals : List Typed)
+      → HiddenAlike bound (type_env_at a owner parametric_args unknown locals) b → constant_of (type_env_at a owner parametric_args unknown locals) (expr_pair e) ≡ constant_of (type_env_at b owner parametric_args unknown locals) (expr_pair e)
+  constant_behind owner own bound e h parametric_args unknown locals n =
+      constant_same P (type_env_at a owner parametric_args unknown locals) b (expr_pair e) s.known
+      (constant_alike P (expr_pair e) (mentioned e) (expression_alike P e) bound (type_env_at a owner parametric_args unknown locals) b (seen owner own bound (mentioned e bound) h parametric_args unknown locals n))
+
+  body_behind : (owner : List ℕ) → Own owner → (body : Block) (bound : List (List ℕ)) → ExprDen owner (mentioned_in_block body bound) → (parametric_args : List Given) (locals : List Typed) (wanted : Option DslxType)
+      → HiddenAlike bound (type_env_at a owner parametric_args [] locals) b → body_typing false (type_env_at a owner parametric_args [] locals) wanted body ≡ body_typing false (type_env_at b owner parametric_args [] locals) wanted body
+  body_behind owner own body bound h parametric_args locals wanted n =
+      let context = type_env_at a owner parametric_args [] locals in
+      let from = seen owner own bound (mentioned_in_block body bound) h parametric_args [] locals n in
+      let j = block_of_text_alike P body bound false context b from in
+      let reached = block_of_text_reaches P body bound false context from.reach in
+      let clean = all_alike P a.is_unbroken b.is_unbroken s.known.unbroken ((block_pair body).1 false context).reached reached ∙ ap (λ (k : Judgement). list_all b.is_unbroken k.reached) j in
+      λ i. limited_by (clean i) (out-Block body).span.to (record (j i) { faults = (j i).faults ++ wanted_faults (out-Block body).span wanted (j i).ty })
+
+  -- behind names whose constants are alike
   pub type_at : (owner : List ℕ) → Own owner → (bound : List (List ℕ)) → NamesAlike a b bound → (t : TypeExpr) → ExprDen owner (mentioned_in_type t bound) → (parametric_args : List Given) (unknown : List (List ℕ)) (locals : List Typed)
       → typing_of_type (type_env_at a owner parametric_args unknown locals) t ≡ typing_of_type (type_env_at b owner parametric_args unknown locals) t
-  type_at owner own bound n t h parametric_args unknown locals = written_type_alike P t bound (type_env_at a owner parametric_args unknown locals) b (s.sees owner own bound n (mentioned_in_type t bound) h)
+  type_at owner own bound n t h parametric_args unknown locals = type_behind owner own bound t h parametric_args unknown locals (hidden_alike bound (type_env_at a owner parametric_args unknown locals) b n)
 
   pub inner_at : (owner : List ℕ) → Own owner → (bound : List (List ℕ)) → NamesAlike a b bound → (t : TypeExpr) → ExprDen owner (mentioned_in_type t bound) → (parametric_args : List Given) (unknown : List (List ℕ)) (locals : List Typed)
       → typing_of_inner (type_env_at a owner parametric_args unknown locals) t ≡ typing_of_inner (type_env_at b owner parametric_args unknown locals) t
-  inner_at owner own bound n t h parametric_args unknown locals = inner_same (type_env_at a owner parametric_args unknown locals) b (type_pair t) (type_at owner own bound n t h parametric_args unknown locals)
+  inner_at owner own bound n t h parametric_args unknown locals = inner_behind owner own bound t h parametric_args unknown locals (hidden_alike bound (type_env_at a owner parametric_args unknown locals) b n)
 
   pub constant_at : (owner : List ℕ) → Own owner → (bound : List (List ℕ)) → NamesAlike a b bound → (e : Expr) → ExprDen owner (mentioned e bound) → (parametric_args : List Given) (unknown : List (List ℕ)) (locals : List Typed)
       → constant_of (type_env_at a owner parametric_args unknown locals) (expr_pair e) ≡ constant_of (type_env_at b owner parametric_args unknown locals) (expr_pair e)
-  constant_at owner own bound n e h parametric_args unknown locals =
-      constant_same P (type_env_at a owner parametric_args unknown locals) b (expr_pair e) s.known
-      (constant_alike P (expr_pair e) (mentioned e) (expression_alike P e) bound (type_env_at a owner parametric_args unknown locals) b (s.sees owner own bound n (mentioned e bound) h))
+  constant_at owner own bound n e h parametric_args unknown locals = constant_behind owner own bound e h parametric_args unknown locals (hidden_alike bound (type_env_at a owner parametric_args unknown locals) b n)
 
   local_at : (owner : List ℕ) (parametric_args : List Given) (before : List (List ℕ)) (name : Ident) → local_name (item_type_env a owner parametric_args) before name ≡ local_name (item_type_env b owner parametric_args) before name
   local_at owner parametric_args before name = λ i. local_name (type_env_at (record a { whole = s.known.whole i }) owner parametric_args [] []) before name
@@ -261,41 +353,65 @@ module _ (P Q : List ℕ → Bool) (T : List ℕ → List ℕ → Bool) (m : Mod
   -- ---- functions
 
   -- a default, wherever it stands
-  default_known_at : (owner : List ℕ) → Own owner → (bound : List (List ℕ)) → NamesAlike a b bound → (o : Option Expr) → ExprDen owner (expr_if o bound) → (parametric_args : List Given) (unknown : List (List ℕ))
-      → default_if (type_env_at a owner parametric_args unknown []) o ≡ default_if (type_env_at b owner parametric_args unknown []) o
-  default_known_at owner own bound n None h parametric_args unknown = refl
-  default_known_at owner own bound n (Some e) h parametric_args unknown =
-      let c = constant_at owner own bound n e h parametric_args unknown [] in
+  default_behind : (owner : List ℕ) → Own owner → (bound : List (List ℕ)) (o : Option Expr) → ExprDen owner (expr_if o bound) → (given : List Given) (unknown : List (List ℕ)) → HiddenAlike bound (type_env_at a owner given unknown []) b
+      → default_if (type_env_at a owner given unknown []) o ≡ default_if (type_env_at b owner given unknown []) o
+  default_behind owner own bound None h given unknown n = refl
+  default_behind owner own bound (Some e) h given unknown n =
+      let c = constant_behind owner own bound e h given unknown [] n in
       λ i. record { judgement = (c i).judgement; value = (c i).value }
 
   -- the types of arguments
-  arguments_over : (owner : List ℕ) → Own owner → (fs : List Field) (bound : List (List ℕ)) → NamesAlike a b bound → ExprDen owner (fields_mentions fs bound) → (given : List Given) (unknown : List (List ℕ))
+  arguments_behind : (owner : List ℕ) → Own owner → (fs : List Field) (bound : List (List ℕ)) → ExprDen owner (fields_mentions fs bound) → (given : List Given) (unknown : List (List ℕ)) → HiddenAlike bound (type_env_at a owner given unknown []) b
       → map (λ (f : Field). declared_type (type_env_at a owner given unknown []) f.ty) fs ≡ map (λ (f : Field). declared_type (type_env_at b owner given unknown []) f.ty) fs
-  arguments_over owner own [] bound n h given unknown = refl
-  arguments_over owner own (f ∷ fs) bound n h given unknown =
+  arguments_behind owner own [] bound h given unknown n = refl
+  arguments_behind owner own (f ∷ fs) bound h given unknown n =
       let both = den_parts (T owner) m (mentioned_in_type f.ty bound) (fields_mentions fs bound) h in
-      λ i. unless_unit (type_at owner own bound n f.ty both.0 given unknown [] i).ty ∷ arguments_over owner own fs bound n both.1 given unknown i
+      λ i. unless_unit (type_behind owner own bound f.ty both.0 given unknown [] n i).ty ∷ arguments_behind owner own fs bound both.1 given unknown n i
 
-  result_over : (owner : List ℕ) → Own owner → (o : Option TypeExpr) (bound : List (List ℕ)) → NamesAlike a b bound → ExprDen owner (type_if o bound) → (given : List Given) (unknown : List (List ℕ))
+  result_behind : (owner : List ℕ) → Own owner → (o : Option TypeExpr) (bound : List (List ℕ)) → ExprDen owner (type_if o bound) → (given : List Given) (unknown : List (List ℕ)) → HiddenAlike bound (type_env_at a owner given unknown []) b
       → result_typing (type_env_at a owner given unknown []) o ≡ result_typing (type_env_at b owner given unknown []) o
-  result_over owner own None bound n h given unknown = refl
-  result_over owner own (Some t) bound n h given unknown = type_at owner own bound n t h given unknown []
+  result_behind owner own None bound h given unknown n = refl
+  result_behind owner own (Some t) bound h given unknown n = type_behind owner own bound t h given unknown [] n
 
   -- what a function declares: the types and the defaults of its parametrics, and its signature
-  pub declared_over : (f : Function) → item_named f.name.name m.items ≡ Some (d.Function f) → Own f.name.name → NamesAlike a b (parametric_names f.parametrics) → ExprDen f.name.name (parametrics_mentions f.parametrics [])
+  pub declared_over : (f : Function) → item_named f.name.name m.items ≡ Some (d.Function f) → Own f.name.name → ExprDen f.name.name (parametrics_mentions f.parametrics [])
       → ExprDen f.name.name (fields_mentions f.arguments (parametric_names f.parametrics)) → ExprDen f.name.name (type_if f.result (parametric_names f.parametrics)) → DeclaredAlike (globals_over a) (globals_over b) f.name.name
-  declared_over f is own plain ps fs rs =
-      declared_alike a b owner (d.Function f) ((λ i. item_named owner (s.text i).items) ∙ is) ((λ i. item_named owner (sym s.known.whole i).items) ∙ (λ i. item_named owner (s.text i).items) ∙ is) (LeftAlike T m a b owner) (left_next T m a b owner)
-      (λ bound p qs h given unknown. inner_at owner own bound h.plain p.ty (first_den T m a b owner bound p qs h).0 given unknown [])
-      (λ bound p qs h given unknown. default_known_at owner own bound h.plain p.default (first_den T m a b owner bound p qs h).1 given unknown)
-      (λ given unknown.
-      let arguments = arguments_over owner own f.arguments (parametric_names f.parametrics) plain fs given unknown in
-      let result = result_over owner own f.result (parametric_names f.parametrics) plain rs given unknown in
+  declared_over f is own ps fs rs =
+      declared_alike a b owner (d.Function f) ((λ i. item_named owner (s.text i).items) ∙ is) ((λ i. item_named owner (sym s.known.whole i).items) ∙ (λ i. item_named owner (s.text i).items) ∙ is) (LeftMentioned T m owner) (left_mentioned T m owner)
+      (λ bound p qs h given unknown w. inner_behind owner own bound p.ty (first_mentioned T m owner bound p qs h).0 given unknown [] (hidden_behind owner bound given unknown [] w))
+      (λ bound p qs h given unknown w. default_behind owner own bound p.default (first_mentioned T m owner bound p qs h).1 given unknown (hidden_behind owner bound given unknown [] w))
+      (λ given unknown w.
+      let n = hidden_behind owner (parametric_names f.parametrics) given unknown [] w in
+      let arguments = arguments_behind owner own f.arguments (parametric_names f.parametrics) fs given unknown n in
+      let result = result_behind owner own f.result (parametric_names f.parametrics) rs given unknown n in
       λ i. record { arguments = arguments i; result = (result i).ty })
-      (record { plain = tt; others = plain; mentions = ps })
+      ps
     where
       owner : List ℕ
       owner = f.name.name
+
+  -- the body of an instance of as many parametric arguments as there are parametrics
+  typed_behind : (owner : List ℕ) → Own owner → (so_far : List Typed) (fs : List Field) (bound : List (List ℕ)) → ExprDen owner (fields_mentions fs bound) → (given : List Given) → HiddenAlike bound (type_env_at a owner given [] []) b
+      → arguments_typed (item_type_env a owner given) so_far fs ≡ arguments_typed (item_type_env b owner given) so_far fs
+  typed_behind owner own so_far [] bound h given n = refl
+  typed_behind owner own so_far (f ∷ fs) bound h given n =
+      let both = den_parts (T owner) m (mentioned_in_type f.ty bound) (fields_mentions fs bound) h in
+      typed_behind owner own (record { name = f.name.name; ty = (typing_of_inner (item_type_env a owner given) f.ty).ty } ∷ so_far) fs bound both.1 given n
+      ∙ (λ i. arguments_typed (item_type_env b owner given) (record { name = f.name.name; ty = (inner_behind owner own bound f.ty both.0 given [] [] n i).ty } ∷ so_far) fs)
+
+  pub body_alike : (f : Function) → Own f.name.name → FunctionParts T m f → (parametric_args : List DslxValue) → length parametric_args ≡ length f.parametrics → (function_seen a f parametric_args).body ≡ (function_seen b f parametric_args).body
+  body_alike f own h parametric_args many =
+      let owner = f.name.name in
+      let given = parametric_args_bound [] f.parametrics parametric_args in
+      let names = parametric_names f.parametrics in
+      let w = args_bound f.parametrics parametric_args many in
+      let n = hidden_behind owner names given [] [] w in
+      let result = result_behind owner own f.result names h.result given [] n in
+      let typed = typed_behind owner own [] f.arguments names h.arguments given n in
+      let locals = arguments_typed (item_type_env a owner given) [] f.arguments in
+      let inner : HiddenAlike (field_names f.arguments ++ names) (type_env_at a owner given [] locals) b = λ name q free. absurd (true≢false (sym (all_there (item_type_env a owner given) f.arguments names given name q w) ∙ free)) in
+      body_behind owner own f.body (field_names f.arguments ++ names) h.body given locals (result_typing (item_type_env a owner given) f.result).ty inner
+      ∙ (λ i. body_typing false (type_env_at b owner given [] (typed i)) (result i).ty f.body)
 
   default_at : (owner : List ℕ) → Own owner → (bound : List (List ℕ)) → NamesAlike a b bound → (o : Option Expr) → ExprDen owner (expr_if o bound) → (parametric_args : List Given) (t u : Option DslxType) → t ≡ u
       → default_found (item_type_env a owner parametric_args) t o ≡ default_found (item_type_env b owner parametric_args) u o
@@ -336,13 +452,7 @@ module _ (P Q : List ℕ → Bool) (T : List ℕ → List ℕ → Bool) (m : Mod
 
   body_at : (owner : List ℕ) → Own owner → (body : Block) (bound : List (List ℕ)) → NamesAlike a b bound → ExprDen owner (mentioned_in_block body bound) → (parametric_args : List Given) (locals : List Typed) (wanted : Option DslxType)
       → body_typing false (type_env_at a owner parametric_args [] locals) wanted body ≡ body_typing false (type_env_at b owner parametric_args [] locals) wanted body
-  body_at owner own body bound n h parametric_args locals wanted =
-      let context = type_env_at a owner parametric_args [] locals in
-      let seen = s.sees owner own bound n (mentioned_in_block body bound) h in
-      let j = block_of_text_alike P body bound false context b seen in
-      let reached = block_of_text_reaches P body bound false context seen.reach in
-      let clean = all_alike P a.is_unbroken b.is_unbroken s.known.unbroken ((block_pair body).1 false context).reached reached ∙ ap (λ (k : Judgement). list_all b.is_unbroken k.reached) j in
-      λ i. limited_by (clean i) (out-Block body).span.to (record (j i) { faults = (j i).faults ++ wanted_faults (out-Block body).span wanted (j i).ty })
+  body_at owner own body bound n h parametric_args locals wanted = body_behind owner own body bound h parametric_args locals wanted (hidden_alike bound (type_env_at a owner parametric_args [] locals) b n)
 
   pub function_at : (f : Function) → Own f.name.name → FunctionParts T m f → NamesAlike a b (parametric_names f.parametrics) → NamesAlike a b (field_names f.arguments) → (parametric_args : List DslxValue) → function_seen a f parametric_args ≡ function_seen b f parametric_args
   function_at f own h plain arguments parametric_args =

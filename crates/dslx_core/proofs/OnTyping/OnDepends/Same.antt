@@ -1,5 +1,7 @@
 -- Judgements by what is known in two ways, by those of their parts.
 use Rattle.std.proofs.Common.{◌≡◌, ◌&&◌, ◌||◌, ◌++◌, ℕ, Bool, true, false, not, if◌then◌else◌, List, [], ◌∷◌, map, length, Option, Some, None, refl, ap, ◌∙◌, zero, suc}
+use mathlib.Core.Bool.{true≢false}
+use Rattle.std.specs.Str.{bytes_eq}
 use Rattle.std.specs.List.{list_all}
 use Rattle.std.specs.Option.{option_map}
 use Rattle.xb_span.specs.declared.fault.Fault.{Fault}
@@ -20,13 +22,14 @@ use Rattle.dslx_meaning.specs.Rules.AggregateRules.{array_faults, array_in, arra
 use Rattle.dslx_meaning.specs.Rules.PatternRules.{is_there}
 use Rattle.dslx_meaning.specs.Rules.OperatorRules.{unless_type}
 use Rattle.dslx_meaning.specs.Rules.ConstantRules.{ConstantSeen, untyped_typing, constant_of, constant_or_untyped, count_number, count_of, count_with, is_empty, names_a_local, over_size, value_if_whole}
-use Rattle.dslx_meaning.specs.Rules.TypeEnvs.{ExprPair, Instance, Judgement, GlobalEnv, TypeEnv, all_alone, alone, untyped_of, breaks, breaks_if, constant_env, faults_of_all, has_broken, no_token, one_and, plus_size, reached_of_all, settled, size_if_typed, size_of_all, span_of, typed_in, types_of, unlimited}
+use Rattle.dslx_meaning.specs.Rules.TypeEnvs.{ExprPair, Instance, Judgement, GlobalEnv, Typed, TypeEnv, all_alone, alone, untyped_of, breaks, breaks_if, constant_env, faults_of_all, has_broken, no_token, one_and, plus_size, reached_of_all, settled, size_if_typed, size_of_all, span_of, typed_in, types_of, unlimited}
 use Rattle.dslx_meaning.specs.Rules.Typings.{FieldSeen, TypePair}
 use Rattle.dslx_meaning.specs.Rules.Mentions.{AsType, is_of_use}
 use Rattle.dslx_meaning.specs.Rules.NameRules.{end_or_other, item_value, local_or_other, member_typing, member_of, name_typing, parametric_or_item, has_member}
 use Rattle.dslx_meaning.specs.Rules.TypeRules.{inner_type, inner_types, named_type}
 use Rattle.dslx_core.specs.Typing.TypingRelations.Reached.{AllNamed}
-use Rattle.dslx_core.specs.Typing.Depends.Alike.{EnumAlike, GlobalsAgree, in_globals}
+use Rattle.dslx_core.specs.Typing.Depends.Alike.{EnumAlike, GlobalsAgree, in_globals, is_bound_there}
+use Rattle.dslx_core.proofs.OnTyping.OnSized.Locals.{IsWhole, empty_parts, rule_kept}
 
 -- the same judgement
 abbrev pub PartSame : TypeEnv → GlobalEnv → ExprPair → Type 0
@@ -66,18 +69,49 @@ constant_by clean sound end j v =
 abbrev with_local_fault : TypeEnv → ExprPair → Judgement → Judgement
 with_local_fault context e j = record j { faults = j.faults ++ breaks_if (names_a_local context e) 5 (span_of e) }
 
--- what is asked of a constant besides its judgement
+-- what is asked of a constant besides its judgement: one value, where it breaks no rule and has a size
 pub record ConstantSame (P : List ℕ → Bool) (context : TypeEnv) (other : GlobalEnv) (e : ExprPair) : Type 0 where
   pub part : PartSame context other e
   pub reached : AllNamed P (alone context e).reached
-  pub value : value_of e.0 (constant_env context) ≡ value_of e.0 (constant_env (in_globals context other))
+  pub value : IsWhole context e → value_of e.0 (constant_env context) ≡ value_of e.0 (constant_env (in_globals context other))
+
+-- a value that is asked for only then
+value_by : (clean sound : Bool) (context : TypeEnv) (e : ExprPair) (v w : Option DslxValue) → (IsWhole context e → v ≡ w)
+    → constant_by clean sound (span_of e).to (with_local_fault context e (alone context e)) v ≡ constant_by clean sound (span_of e).to (with_local_fault context e (alone context e)) w
+value_by clean sound context e v w same = by_test (is_empty limited.faults) sound refl
+  where
+    inner : Judgement
+    inner = alone context e
+
+    limited : Judgement
+    limited = limited_by clean (span_of e).to (with_local_fault context e inner)
+
+    wrong : List Fault
+    wrong = breaks_if (names_a_local context e) 5 (span_of e)
+
+    of_value : Option DslxValue → ConstantSeen
+    of_value known = let ty = and_then known (λ v. inner.ty) in record { judgement = record limited { ty = ty; size = size_if_typed ty inner.size }; bare = None; value = known }
+
+    by_size : is_empty limited.faults ≡ true → (t : Option DslxType) (n : Option ℕ) → inner.size ≡ n → and_then t (λ t. and_then n (λ n. v)) ≡ and_then t (λ t. and_then n (λ n. w))
+    by_size f None n q = refl
+    by_size f (Some t) None q = refl
+    by_size f (Some t) (Some n) q =
+        let r = empty_parts (inner.faults ++ wrong) (size_by clean (span_of e).to (with_local_fault context e inner)) f in
+        let o = empty_parts inner.faults wrong r.0 in
+        same (record { faults = o.0; free = rule_kept (names_a_local context e) 5 (span_of e) o.1; sized = ap is_there q })
+
+    by_test : (p q : Bool) → is_empty limited.faults ≡ p → of_value (if p && q then value_if_whole limited v else None) ≡ of_value (if p && q then value_if_whole limited w else None)
+    by_test false q f = refl
+    by_test true false f = refl
+    by_test true true f = ap of_value (by_size f inner.ty inner.size refl)
 
 pub constant_same : (P : List ℕ → Bool) (context : TypeEnv) (other : GlobalEnv) (e : ExprPair) → GlobalsAgree P context.known other → ConstantSame P context other e → constant_of context e ≡ constant_of (in_globals context other) e
 constant_same P context other e k h =
     let own = alone_same context other e h.part in
     let clean = all_alike P context.known.is_unbroken other.is_unbroken k.unbroken (alone context e).reached h.reached ∙ ap (λ (j : Judgement). list_all other.is_unbroken j.reached) own in
     let sound = all_alike P context.known.is_sound other.is_sound k.sound (alone context e).reached h.reached ∙ ap (λ (j : Judgement). list_all other.is_sound j.reached) own in
-    λ i. constant_by (clean i) (sound i) (span_of e).to (with_local_fault context e (own i)) (h.value i)
+    value_by (list_all context.known.is_unbroken (alone context e).reached) (list_all context.known.is_sound (alone context e).reached) context e (value_of e.0 (constant_env context)) (value_of e.0 (constant_env (in_globals context other))) h.value
+    ∙ (λ i. constant_by (clean i) (sound i) (span_of e).to (with_local_fault context e (own i)) (value_of e.0 (constant_env (in_globals context other))))
 
 abbrev untyped_or_constant : TypeEnv → ExprPair → Option UntypedLiteral → ConstantSeen
 untyped_or_constant context e None = constant_of context e
@@ -95,30 +129,43 @@ count_same P context other e k h = ap (λ (c : ConstantSeen). count_with (span_o
 
 -- ---- names
 
-pub name_same : (P : List ℕ → Bool) (span : Span) (context : TypeEnv) (other : GlobalEnv) (name : List ℕ) → GlobalsAgree P context.known other → context.known.items.constant name ≡ other.items.constant name
-    → name_typing span context name ≡ name_typing span (in_globals context other) name
-name_same P span context other name k same = by_local (typed_in name context.locals)
+-- a name of which no local and no parametric is bound
+unbound_name : (context : TypeEnv) (name : List ℕ) → typed_in name context.locals ≡ None → given_in name context.parametric_args ≡ None → is_in name context.unknown ≡ false → is_bound_there context name ≡ false
+unbound_name context name l g u = λ i. no_local context.locals l i || (is_there (g i) || u i)
   where
-    by_item : (b : Bool) → item_value span context name b ≡ item_value span (in_globals context other) name b
-    by_item true = λ i. settled span (option_map type_of_value (same i)) (breaks_if (k.cyclic context.owner name i) 3 span) [] (Some 1)
-    by_item false = refl
+    no_local : (ls : List Typed) → typed_in name ls ≡ None → is_in name (map (λ (x : Typed). x.name) ls) ≡ false
+    no_local [] e = refl
+    no_local (x ∷ ls) e = by_first (bytes_eq name x.name) e (no_local ls)
+      where
+        by_first : (b : Bool) → (if b then Some x.ty else typed_in name ls) ≡ None → (typed_in name ls ≡ None → is_in name (map (λ (x : Typed). x.name) ls) ≡ false) → (if b then true else is_in name (map (λ (x : Typed). x.name) ls)) ≡ false
+        by_first true e rest = absurd (true≢false (ap is_there e))
+        by_first false e rest = rest e
 
-    by_unknown : (b : Bool) → (if b then settled span None [] [] (Some 1) else item_value span context name (context.known.items.is_constant name))
+-- a name, where the constant of it is known alike unless it is hidden
+pub name_same : (P : List ℕ → Bool) (span : Span) (context : TypeEnv) (other : GlobalEnv) (name : List ℕ) → GlobalsAgree P context.known other → (is_bound_there context name ≡ false → context.known.items.constant name ≡ other.items.constant name)
+    → name_typing span context name ≡ name_typing span (in_globals context other) name
+name_same P span context other name k same = by_local (typed_in name context.locals) refl
+  where
+    by_item : context.known.items.constant name ≡ other.items.constant name → (b : Bool) → item_value span context name b ≡ item_value span (in_globals context other) name b
+    by_item e true = λ i. settled span (option_map type_of_value (e i)) (breaks_if (k.cyclic context.owner name i) 3 span) [] (Some 1)
+    by_item e false = refl
+
+    by_unknown : (b : Bool) → (b ≡ false → context.known.items.constant name ≡ other.items.constant name) → (if b then settled span None [] [] (Some 1) else item_value span context name (context.known.items.is_constant name))
         ≡ (if b then settled span None [] [] (Some 1) else item_value span (in_globals context other) name (other.items.is_constant name))
-    by_unknown true = refl
-    by_unknown false = by_item (context.known.items.is_constant name) ∙ ap (item_value span (in_globals context other) name) (k.kinds name)
+    by_unknown true e = refl
+    by_unknown false e = by_item (e refl) (context.known.items.is_constant name) ∙ ap (item_value span (in_globals context other) name) (k.kinds name)
 
-    by_number : (o : Option DslxValue) → parametric_or_item span context name o ≡ parametric_or_item span (in_globals context other) name o
-    by_number None = by_unknown (is_in name context.unknown)
-    by_number (Some v) = refl
+    by_number : typed_in name context.locals ≡ None → (o : Option DslxValue) → given_in name context.parametric_args ≡ o → parametric_or_item span context name o ≡ parametric_or_item span (in_globals context other) name o
+    by_number l None g = by_unknown (is_in name context.unknown) (λ u. same (unbound_name context name l g u))
+    by_number l (Some v) g = refl
 
-    by_end : (b : Bool) → end_or_other span context name b ≡ end_or_other span (in_globals context other) name b
-    by_end true = refl
-    by_end false = by_number (given_in name context.parametric_args)
+    by_end : typed_in name context.locals ≡ None → (b : Bool) → end_or_other span context name b ≡ end_or_other span (in_globals context other) name b
+    by_end l true = refl
+    by_end l false = by_number l (given_in name context.parametric_args) refl
 
-    by_local : (o : Option (Option DslxType)) → local_or_other span context name o ≡ local_or_other span (in_globals context other) name o
-    by_local None = by_end (is_in name context.ends)
-    by_local (Some ty) = refl
+    by_local : (o : Option (Option DslxType)) → typed_in name context.locals ≡ o → local_or_other span context name o ≡ local_or_other span (in_globals context other) name o
+    by_local None l = by_end l (is_in name context.ends)
+    by_local (Some ty) l = refl
 
 pub member_same : (P : List ℕ → Bool) (context : TypeEnv) (other : GlobalEnv) (e a : Ident) → GlobalsAgree P context.known other → EnumAlike context.known other e.name
     → member_typing context e a ≡ member_typing (in_globals context other) e a

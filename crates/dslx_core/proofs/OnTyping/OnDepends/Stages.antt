@@ -1,5 +1,5 @@
 -- What is known by chains of items that are long enough.
-use Rattle.std.proofs.Common.{◌≡◌, ◌&&◌, ◌++◌, ℕ, zero, suc, Bool, true, false, not, if◌then◌else◌, List, [], ◌∷◌, Option, Some, None, refl, sym, ap, subst, ◌∙◌}
+use Rattle.std.proofs.Common.{◌≡◌, ◌&&◌, ◌++◌, ℕ, zero, suc, Bool, true, false, not, if◌then◌else◌, List, [], ◌∷◌, length, Option, Some, None, refl, sym, ap, subst, ◌∙◌}
 use mathlib.Core.Bool.{true≢false}
 use Rattle.std.specs.Prelude.{flat_map}
 use Rattle.std.specs.List.{list_all}
@@ -18,14 +18,15 @@ use Rattle.dslx_meaning.specs.Lists.{and_then}
 use Rattle.dslx_meaning.specs.declared.ty.DslxType.{DslxType}
 use Rattle.dslx_meaning.specs.declared.value.DslxValue.{DslxValue}
 use Rattle.dslx_meaning.specs.Rules.ItemRules.{ConstantFound, FunctionSeen, TypeFound, constant_seen, enum_member_value, function_seen, struct_seen}
-use Rattle.dslx_meaning.specs.Rules.TypeEnvs.{Instance, GlobalEnv}
+use Rattle.dslx_meaning.specs.Rules.TypeEnvs.{Instance, GlobalEnv, Judgement}
 use Rattle.dslx_meaning.specs.Rules.Mentions.{Use, AsValue, AsPattern, AsType, AsFunction, AsProc, AsEnum, AsStruct, Mention, definition_mentions, expr_if, field_names, fields_mentions, is_of_use, mentioned, mentioned_in_block, mentioned_in_type, mentions_of, names_mentioned, parametric_names, parametrics_mentions, type_if, is_cyclic, item_reaches}
-use Rattle.dslx_meaning.specs.Rules.ModuleRules.{found_of_instance, found_of_item, globals_over, globals_within, size_known, type_known}
+use Rattle.dslx_meaning.specs.Rules.ModuleRules.{found_of_instance, found_of_item, globals_over, globals_within, size_known, sound_instance, type_known, unbroken_instance}
 use Rattle.dslx_core.specs.Typing.TypingRelations.Reached.{AllNamed}
 use Rattle.dslx_core.proofs.Lemmas.Typing.TypingRelations.{function_is, item_so_named, whole_is}
 use Rattle.dslx_core.specs.Typing.Depends.Alike.{CalleeAlike, EnumAlike, FunctionAlike, GlobalsAgree, UseAlike}
-use Rattle.dslx_core.specs.Typing.Depends.Settled.{BindsNoConstant}
+use Rattle.dslx_core.proofs.OnTyping.OnDepends.Bindings.{binding_broken, binds_constant, names_constant, no_constants}
 use Rattle.dslx_core.proofs.OnTyping.OnDepends.NoProcs.{IsNoProc, NoProcs, no_proc_in_block, no_proc_in_expression, no_proc_in_type, no_procs_join}
+use Rattle.dslx_core.proofs.OnTyping.OnTyped.TypingRelations.{or_false}
 use Rattle.dslx_core.proofs.OnTyping.OnDepends.OfItems as of
 use Rattle.dslx_core.proofs.OnTyping.OnDepends.OfItems.{Sight}
 
@@ -60,7 +61,7 @@ is_proc_item _ = false
 abbrev pub MentionsOwn : (List ℕ → Bool) → (List ℕ → List ℕ → Bool) → Module → Type 0
 MentionsOwn Q T m = (name : List ℕ) → Q name ≡ true → list_all (T name) (mentions_of m (item_named name m.items)) ≡ true
 
-module _ (P Q : List ℕ → Bool) (T : List ℕ → List ℕ → Bool) (m : Module) (a b : GlobalEnv) (s : Sight P Q T m a b) (has : MentionsOwn Q T m) (plain : BindsNoConstant m) where
+module _ (P Q : List ℕ → Bool) (T : List ℕ → List ℕ → Bool) (m : Module) (a b : GlobalEnv) (s : Sight P Q T m a b) (has : MentionsOwn Q T m) where
   abbrev pub Own : List ℕ → Type 0
   Own owner = Q owner ≡ true
 
@@ -81,24 +82,39 @@ module _ (P Q : List ℕ → Bool) (T : List ℕ → List ℕ → Bool) (m : Mod
   pub own_mentions : (name : List ℕ) (x : Definition) → item_named name m.items ≡ Some x → Own name → list_all (T (name_of_definition x)) (names_mentioned m (definition_mentions x)) ≡ true
   own_mentions name x q own = (λ i. list_all (T (name_of_definition x)) (mentions_of m (sym (named_again name x q) i))) ∙ has (name_of_definition x) (own_again name x q own)
 
-  pub function_at : (name : List ℕ) (f : Function) → item_named name m.items ≡ Some (d.Function f) → Own name → (parametric_args : List DslxValue) → function_seen a f parametric_args ≡ function_seen b f parametric_args
-  function_at name f q own parametric_args =
-      let names = plain name f (ap as_function q) in
+  function_at : (name : List ℕ) (f : Function) → item_named name m.items ≡ Some (d.Function f) → Own name → binds_constant m f ≡ false → (parametric_args : List DslxValue) → function_seen a f parametric_args ≡ function_seen b f parametric_args
+  function_at name f q own free parametric_args =
+      let names = or_false (names_constant m (parametric_names f.parametrics)) (names_constant m (field_names f.arguments)) free in
       of.function_at P Q T m a b s f (own_again name (d.Function f) q own) (of.function_parts T m f (own_mentions name (d.Function f) q own))
-      (of.plain_names P Q T m a b s (parametric_names f.parametrics) names.0) (of.plain_names P Q T m a b s (field_names f.arguments) names.1) parametric_args
+      (of.plain_names P Q T m a b s (parametric_names f.parametrics) (no_constants m (parametric_names f.parametrics) names.0)) (of.plain_names P Q T m a b s (field_names f.arguments) (no_constants m (field_names f.arguments) names.1)) parametric_args
 
-  -- instances of what is no proc
-  found_at : (k : Instance) → Own k.name → is_proc_item (item_named k.name m.items) ≡ false → found_of_instance a k ≡ found_of_instance b k
-  found_at k own other = at_item k.name (λ known o. found_of_item known k.parametric_args o) (by_item (item_named k.name m.items) refl other)
+  -- instances of what is no proc: those of functions that bind the name of a constant break rule 2 in both
+  abbrev BothAlike : Instance → Type 0
+  BothAlike k = (sound_instance a k ≡ sound_instance b k) × (unbroken_instance a k ≡ unbroken_instance b k)
+
+  both_alike : (k : Instance) → Own k.name → is_proc_item (item_named k.name m.items) ≡ false → AllNamed P (found_of_instance a k).reached → BothAlike k
+  both_alike k own other reached = by_item (item_named k.name m.items) refl other
     where
-      by_item : (o : Option Definition) → item_named k.name m.items ≡ o → is_proc_item o ≡ false → found_of_item a k.parametric_args o ≡ found_of_item b k.parametric_args o
-      by_item (Some (d.Function f)) q e = ap (λ (x : FunctionSeen). x.found) (function_at k.name f q own k.parametric_args)
+      from : found_of_item a k.parametric_args (item_named k.name m.items) ≡ found_of_item b k.parametric_args (item_named k.name m.items) → BothAlike k
+      from e =
+          let same : found_of_instance a k ≡ found_of_instance b k = at_item k.name (λ known o. found_of_item known k.parametric_args o) e in
+          (of.sound_at P Q T m a b s k reached same, of.unbroken_at P Q T m a b s k reached same)
+
+      by_binding : (f : Function) → item_named k.name m.items ≡ Some (d.Function f) → (t : Bool) → binds_constant m f ≡ t → BothAlike k
+      by_binding f q true e =
+          let x = binding_broken m a s.text k f q e in
+          let y = binding_broken m b other_text k f q e in
+          (x.0 ∙ sym y.0, x.1 ∙ sym y.1)
+      by_binding f q false e = from (ap (found_of_item a k.parametric_args) q ∙ ap (λ (x : FunctionSeen). x.found) (function_at k.name f q own e k.parametric_args) ∙ sym (ap (found_of_item b k.parametric_args) q))
+
+      by_item : (o : Option Definition) → item_named k.name m.items ≡ o → is_proc_item o ≡ false → BothAlike k
+      by_item (Some (d.Function f)) q e = by_binding f q (binds_constant m f) refl
       by_item (Some (d.Proc p)) q e = absurd (true≢false e)
-      by_item (Some (d.Constant c)) q e = refl
-      by_item (Some (d.Alias t)) q e = refl
-      by_item (Some (d.Struct t)) q e = refl
-      by_item (Some (d.Enum n)) q e = refl
-      by_item None q e = refl
+      by_item (Some (d.Constant c)) q e = from (ap (found_of_item a k.parametric_args) q ∙ sym (ap (found_of_item b k.parametric_args) q))
+      by_item (Some (d.Alias t)) q e = from (ap (found_of_item a k.parametric_args) q ∙ sym (ap (found_of_item b k.parametric_args) q))
+      by_item (Some (d.Struct t)) q e = from (ap (found_of_item a k.parametric_args) q ∙ sym (ap (found_of_item b k.parametric_args) q))
+      by_item (Some (d.Enum n)) q e = from (ap (found_of_item a k.parametric_args) q ∙ sym (ap (found_of_item b k.parametric_args) q))
+      by_item None q e = from (ap (found_of_item a k.parametric_args) q ∙ sym (ap (found_of_item b k.parametric_args) q))
 
   -- ---- each use
 
@@ -165,19 +181,18 @@ module _ (P Q : List ℕ → Bool) (T : List ℕ → List ℕ → Bool) (m : Mod
 
   function_alike : (name : List ℕ) (f : Function) → item_named name m.items ≡ Some (d.Function f) → Own name → FunctionAlike (globals_over a) (globals_over b) f
   function_alike name f q own =
-      let names = plain name f (ap as_function q) in
       let owner = own_again name (d.Function f) q own in
       let h = of.function_parts T m f (own_mentions name (d.Function f) q own) in
-      let parametrics = of.plain_names P Q T m a b s (parametric_names f.parametrics) names.0 in
       record {
-        declared = of.declared_over P Q T m a b s f (named_again name (d.Function f) q) owner parametrics h.parametrics h.arguments h.result;
-        size = λ parametric_args. at_item f.name.name (size_over parametric_args) (sized parametric_args);
+        declared = of.declared_over P Q T m a b s f (named_again name (d.Function f) q) owner h.parametrics h.arguments h.result;
+        size = λ parametric_args many. at_item f.name.name (size_over parametric_args) (sized parametric_args many);
       }
     where
-      sized : (parametric_args : List DslxValue) → size_over parametric_args a (item_named f.name.name m.items) ≡ size_over parametric_args b (item_named f.name.name m.items)
-      sized parametric_args =
+      sized : (parametric_args : List DslxValue) → length parametric_args ≡ length f.parametrics → size_over parametric_args a (item_named f.name.name m.items) ≡ size_over parametric_args b (item_named f.name.name m.items)
+      sized parametric_args many =
           let again = named_again name (d.Function f) q in
-          (λ i. size_over parametric_args a (again i)) ∙ ap (λ (x : FunctionSeen). x.body.size) (function_at name f q own parametric_args) ∙ sym (λ i. size_over parametric_args b (again i))
+          let h = of.function_parts T m f (own_mentions name (d.Function f) q own) in
+          (λ i. size_over parametric_args a (again i)) ∙ ap (λ (j : Judgement). j.size) (of.body_alike P Q T m a b s f (own_again name (d.Function f) q own) h parametric_args many) ∙ sym (λ i. size_over parametric_args b (again i))
 
   callee_alike : (name : List ℕ) → (is_of_use AsFunction (item_named name m.items) ≡ true → Own name) → CalleeAlike (globals_over a) (globals_over b) name
   callee_alike name own = record {
@@ -221,8 +236,8 @@ module _ (P Q : List ℕ → Bool) (T : List ℕ → List ℕ → Bool) (m : Mod
     whole = s.known.whole;
     kinds = λ name i. is_constant_item (item_named name (s.known.whole i).items);
     cyclic = λ owner name i. is_cyclic (s.known.whole i) owner name;
-    sound = λ k q. let r = own k.name q in of.sound_at P Q T m a b s k (reached k r.0) (found_at k r.0 r.1);
-    unbroken = λ k q. let r = own k.name q in of.unbroken_at P Q T m a b s k (reached k r.0) (found_at k r.0 r.1);
+    sound = λ k q. let r = own k.name q in (both_alike k r.0 r.1 (reached k r.0)).0;
+    unbroken = λ k q. let r = own k.name q in (both_alike k r.0 r.1 (reached k r.0)).1;
   }
 
 -- ---- procs

@@ -222,6 +222,7 @@ module _ (w : ℕ) (P : List ℕ → Bool) (known : GlobalEnv) where
     record {
       declared = λ t e. none_some t (sym (no_type owner p before) ∙ e);
       typed = λ well_typed. not_well_typed owner p before well_typed.faults;
+      narrow = λ f t e. not_well_typed owner p before f;
       default = λ x e well_typed. default_not_well_typed owner p before well_typed.faults;
     },
     λ t v e g. no_declared owner p before t e,

@@ -11,7 +11,7 @@ use Rattle.dslx_tree.specs.declared.item.Field.{Field}
 use Rattle.dslx_tree.specs.declared.item.Function.{Function}
 use Rattle.dslx_tree.specs.declared.item.Module.{Module}
 use Rattle.dslx_tree.specs.declared.item.Struct.{Struct as StructItem}
-use Rattle.dslx_meaning.specs.Items.{as_constant, as_enum, as_function, as_struct, is_constant_item, item_named, member_named, name_of_definition, name_of_field}
+use Rattle.dslx_meaning.specs.Items.{as_constant, as_enum, as_struct, is_constant_item, item_named, member_named, name_of_definition, name_of_field}
 use Rattle.dslx_meaning.specs.Lists.{and_then}
 use Rattle.dslx_meaning.specs.Values.{type_of_value}
 use Rattle.dslx_meaning.specs.declared.ty.DslxType.{DslxType, out-DslxType}
@@ -21,7 +21,7 @@ use Rattle.dslx_meaning.specs.declared.ty.DslxType.TheViews as views
 use Rattle.dslx_meaning.specs.declared.value.DslxValue.{DslxValue}
 use Rattle.dslx_meaning.specs.Rules.ItemRules.{ConstantFound, TypeFound, alias_seen, constant_seen, enum_member_value, enum_seen, struct_seen}
 use Rattle.dslx_meaning.specs.Rules.TypeEnvs.{GlobalEnv, has_broken}
-use Rattle.dslx_meaning.specs.Rules.Mentions.{AsEnum, AsStruct, AsType, AsValue, Mention, Use, definition_mentions, is_of_use, item_reaches, mentions_of, names_mentioned, parametric_names}
+use Rattle.dslx_meaning.specs.Rules.Mentions.{AsEnum, AsStruct, AsType, AsValue, Mention, Use, definition_mentions, is_of_use, item_reaches, mentions_of, names_mentioned}
 use Rattle.dslx_meaning.specs.Rules.ModuleRules.{item_found, globals_of, globals_over, type_known}
 use Rattle.dslx_meaning.specs.Rules.NameRules.{has_member}
 use Rattle.dslx_core.specs.Typing.Typed.Complete.{IsComplete, IsStructKnown}
@@ -32,7 +32,6 @@ use Rattle.dslx_core.proofs.Lemmas.Typing.Typed.{none_some, same_some, struct_de
 use Rattle.dslx_core.specs.Typing.TypingRelations.Cycles.{AllUsed}
 use Rattle.dslx_core.proofs.Lemmas.Typing.TypingRelations.{item_so_named, items_reach, whole_is}
 use Rattle.dslx_core.specs.Typing.Depends.Alike.{TypesAlike, UseAlike}
-use Rattle.dslx_core.specs.Typing.Depends.Settled.{BindsNoConstant}
 use Rattle.dslx_core.proofs.Lemmas.Typing.Depends as of
 use Rattle.dslx_core.proofs.Lemmas.Typing.Depends.{all_alike, settles, settles_closed, uses_settle}
 use Rattle.dslx_core.specs.Typing.Complete.HasValue.{AliasHasType, AreTyped, ConstantHasValue, EnumHasType, IsWellTypedFound, StructHasType}
@@ -107,7 +106,7 @@ none_own : (fs : List Field) (ts : List DslxType) → fs ≡ [] → OwnTypes (ma
 none_own fs [] e h = refl
 none_own fs (t ∷ ts) e h = absurd (subst (λ (xs : List Field). OwnTypes (map name_of_field xs) (t ∷ ts) (map name_of_field xs) (t ∷ ts)) e h)
 
-module _ (m : Module) (plain : BindsNoConstant m) (well_typed : EachItemWellTyped m) (k : ℕ) (stand : (w : ℕ) → PassingHaveValues w (settles m k) (globals_of m)) where
+module _ (m : Module) (well_typed : EachItemWellTyped m) (k : ℕ) (stand : (w : ℕ) → PassingHaveValues w (settles m k) (globals_of m)) where
   abbrev K : GlobalEnv
   K = globals_of m
 
@@ -146,10 +145,10 @@ module _ (m : Module) (plain : BindsNoConstant m) (well_typed : EachItemWellType
   own name x e alone q = of.settles_next m k name q (free_at name x e alone)
 
   own_of : (name : List ℕ) (x : Definition) → item_named name m.items ≡ Some x → is_judged_alone x ≡ true → Q name ≡ true → Own (name_of_definition x)
-  own_of name x e alone q = of.own_again P (of.mentions_pass P m) (λ owner. P) m K (F 1) (sight_filled m 1 k) (λ z g. g) plain name x e (own name x e alone q)
+  own_of name x e alone q = of.own_again P (of.mentions_pass P m) (λ owner. P) m K (F 1) (sight_filled m 1 k) (λ z g. g) name x e (own name x e alone q)
 
   mentions : (name : List ℕ) (x : Definition) → item_named name m.items ≡ Some x → is_judged_alone x ≡ true → Q name ≡ true → list_all P (names_mentioned m (definition_mentions x)) ≡ true
-  mentions name x e alone q = of.own_mentions P (of.mentions_pass P m) (λ owner. P) m K (F 1) (sight_filled m 1 k) (λ z g. g) plain name x e (own name x e alone q)
+  mentions name x e alone q = of.own_mentions P (of.mentions_pass P m) (λ owner. P) m K (F 1) (sight_filled m 1 k) (λ z g. g) name x e (own name x e alone q)
 
   -- ---- what stands below an item, with something else in the place of those that don't pass
 
@@ -187,14 +186,13 @@ module _ (m : Module) (plain : BindsNoConstant m) (well_typed : EachItemWellType
   pub same_types : (v : ℕ) (f : Function) → item_named f.name.name m.items ≡ Some (d.Function f) → Q f.name.name ≡ true → TypesAlike (globals_over K) (globals_over (F v)) f.name.name
   same_types v f is h =
       of.function_types m P Q (settles_closed m k) (of.below_settles m k) K (F v) reads (reads_filled v) (stage_filled m v k) (no_enum_beside v) f is h
-      (of.plain_alike P m K (F v) (settles_closed m k) (stage_filled m v k) (parametric_names f.parametrics) (plain f.name.name f (ap as_function is)).0)
 
   -- longer chains say the same
   pub settle : (u : Use) (name : List ℕ) → UseAlike K (globals_over K) u name
   settle u name =
       let same : 2 * length m.items ≤ 2 * length m.items = omega arith in
       let more : 2 * length m.items ≤ suc (2 * length m.items) = omega arith in
-      uses_settle m plain (2 * length m.items) (suc (2 * length m.items)) same more u name
+      uses_settle m (2 * length m.items) (suc (2 * length m.items)) same more u name
 
   pub named : (name : List ℕ) (x : Definition) → item_named name m.items ≡ Some x → item_named name K.whole.items ≡ Some x
   named name x e = (λ i. item_named name (text i).items) ∙ e

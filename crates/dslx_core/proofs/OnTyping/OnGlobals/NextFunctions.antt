@@ -1,7 +1,9 @@
 -- One function more on chains: what is known of it, where all that it mentions is known.
-use Rattle.std.proofs.Common.{◌*◌, ◌≡◌, ◌≤◌, ◌&&◌, ℕ, suc, Bool, true, false, not, if◌then◌else◌, List, [], ◌∷◌, ◌++◌, map, length, Option, Some, None, arith, refl, sym, ap, subst, ◌∙◌}
+use Rattle.std.proofs.Common.{◌*◌, ◌≡◌, ◌≤◌, ◌&&◌, ◌||◌, ℕ, suc, Bool, true, false, not, if◌then◌else◌, List, [], ◌∷◌, ◌++◌, map, length, Option, Some, None, arith, refl, sym, ap, subst, ◌∙◌}
 use mathlib.Core.Bool.{true≢false}
+use Rattle.std.specs.Str.{bytes_eq}
 use Rattle.std.specs.List.{list_all}
+use Rattle.std.proofs.lemmas.Slice.Eq.{bytes_eq-Decides}
 use Rattle.dslx_tree.specs.declared.expr.Expr.{Expr}
 use Rattle.dslx_tree.specs.declared.item.Definition.TheVariants as d
 use Rattle.dslx_tree.specs.declared.item.Field.{Field}
@@ -9,9 +11,9 @@ use Rattle.dslx_tree.specs.declared.item.Function.{Function}
 use Rattle.dslx_tree.specs.declared.item.Module.{Module}
 use Rattle.dslx_tree.specs.declared.item.Parametric.{Parametric}
 use Rattle.dslx_tree.specs.declared.type_expr.TypeExpr.{TypeExpr}
-use Rattle.dslx_meaning.specs.Environment.{Env, Given}
+use Rattle.dslx_meaning.specs.Environment.{Env, Given, given_in}
 use Rattle.dslx_meaning.specs.Items.{call_of, all_parametric_args, as_function, function_value, inferred_from, item_named, parametric_args_bound, with_number}
-use Rattle.dslx_meaning.specs.Lists.{and_then}
+use Rattle.dslx_meaning.specs.Lists.{and_then, is_in}
 use Rattle.dslx_meaning.specs.Meaning.{value_of, written_type}
 use Rattle.dslx_meaning.specs.Values.{type_of_value}
 use Rattle.dslx_meaning.specs.declared.ty.DslxType.{DslxType}
@@ -22,10 +24,11 @@ use Rattle.dslx_meaning.specs.Rules.TypeRules.{unless_unit}
 use Rattle.dslx_meaning.specs.Rules.ConstantRules.{constant_of, is_empty}
 use Rattle.dslx_meaning.specs.Rules.ItemRules.{arguments_found, body_typing, arguments_typed, function_seen, function_type_env, item_type_env, typing_of_inner, typing_of_type, parametrics_found, result_typing}
 use Rattle.dslx_meaning.specs.Rules.TypeEnvs.{DefaultSeen, ExprPair, Instance, Judgement, GlobalEnv, Signature, TypeEnv, has_broken}
-use Rattle.dslx_meaning.specs.Rules.Mentions.{AsFunction, Mention, expr_if, item_reaches, mentioned, mentioned_in_type, mentions_of, names_mentioned, parametric_names, parametrics_mentions}
+use Rattle.dslx_meaning.specs.Rules.Mentions.{AsFunction, Mention, expr_if, item_reaches, mentioned, mentioned_in_type, mentions_of, names_mentioned, parametrics_mentions}
 use Rattle.dslx_meaning.specs.Rules.ModuleRules.{declared_type, default_if, default_known, found_of_instance, found_of_item, globals_of, globals_over, signature_of, size_known, sound_instance}
 use Rattle.dslx_meaning.specs.Rules.NameRules.{local_name}
 use Rattle.dslx_meaning.specs.Rules.NodeRules.{expr_pair}
+use Rattle.dslx_meaning.specs.Rules.PatternRules.{is_there}
 use Rattle.dslx_core.proofs.Lemmas.Typing.Laws.{AllGiven, given_agree, given_here, given_more, parametric_args_one, value_depends, written_type_depends}
 use Rattle.dslx_core.specs.Typing.Typed.Complete.{EachArgumentDeclared, EachParametricKnown, FitArguments, IsCallable, IsComplete, IsDefaultKnown, IsWellTypedPart, IsFunctionKnown, IsParametricKnown, signature_at}
 use Rattle.dslx_core.specs.Typing.Typed.Declared.{Declarations, IsDeclared}
@@ -33,11 +36,10 @@ use Rattle.dslx_core.specs.Typing.Typed.Given.{GivesOf}
 use Rattle.dslx_core.specs.Typing.Typed.Numbers.{AllOwn, AreOwn, FitParametricArgs, ParametricMeans, ParametricsMean, values_behind}
 use Rattle.dslx_core.specs.Typing.Typed.WellTyped.{AreOperandsOf}
 use Rattle.dslx_core.proofs.Lemmas.Typing.Typed.{none_some, not_unit_is, parametric_is, own_bound, own_more, own_value, same_some}
-use Rattle.dslx_core.proofs.Lemmas.Typing.Sound.{all_in, none_in}
+use Rattle.dslx_core.proofs.Lemmas.Typing.Sound.{all_in, none_in, type_has_den}
 use Rattle.dslx_core.specs.Typing.TypingRelations.Reached.{AllNamed}
 use Rattle.dslx_core.proofs.Lemmas.Typing.TypingRelations.{all_weaker, default_reached, written_type_reaches}
-use Rattle.dslx_core.specs.Typing.Depends.Alike.{CalleeAlike, DeclaredAlike, FunctionAlike, NamesAlike, TypesAlike}
-use Rattle.dslx_core.specs.Typing.Depends.Settled.{AreNoConstants, BindsNoConstant}
+use Rattle.dslx_core.specs.Typing.Depends.Alike.{CalleeAlike, DeclaredAlike, FunctionAlike, HiddenAlike, TypesAlike}
 use Rattle.dslx_core.proofs.Lemmas.Typing.Depends as of
 use Rattle.dslx_core.proofs.Lemmas.Typing.Depends.{all_alike, call_unless, den_parts, settles, settles_closed}
 use Rattle.dslx_core.specs.Typing.Complete.HasValue.{AreTyped, IsWellTypedFound, ParametricHasValue}
@@ -67,7 +69,7 @@ valued_is_whole context x v e = by_test (has_broken (constant_of context x).judg
     by_test true q = none_some v (sym (broken_constant_is_none context x q) ∙ e)
     by_test false q = q
 
-module _ (m : Module) (plain : BindsNoConstant m) (well_typed : EachItemWellTyped m) (k : ℕ) (stand : (w : ℕ) → PassingHaveValues w (settles m k) (globals_of m))
+module _ (m : Module) (well_typed : EachItemWellTyped m) (k : ℕ) (stand : (w : ℕ) → PassingHaveValues w (settles m k) (globals_of m))
     (G : GlobalEnv) (s : of.Stage (settles m (suc k)) m (globals_of m) G)
     (carry : (t : DslxType) → IsDeclared (filled 1 (settles m k) (globals_of m)).items.type_named t → IsDeclared (filled 2 (settles m k) (globals_of m)).items.type_named t → IsDeclared G.items.type_named t)
     (name : List ℕ) (f : Function) (is : item_named name m.items ≡ Some (d.Function f)) (q : settles m (suc k) name ≡ true) (alike : DeclaredAlike G (globals_of m) f.name.name) where
@@ -100,38 +102,38 @@ module _ (m : Module) (plain : BindsNoConstant m) (well_typed : EachItemWellType
   AllReached ms = list_all (T f.name.name) (names_mentioned m ms) ≡ true
 
   complete : (v : ℕ) → IsComplete (F v)
-  complete v = of_next.complete m plain well_typed k stand v
+  complete v = of_next.complete m well_typed k stand v
 
   typed : (v : ℕ) → AreTyped (F v)
-  typed v = of_next.typed m plain well_typed k stand v
+  typed v = of_next.typed m well_typed k stand v
 
   more : (n : List ℕ) → P n ≡ true → Q n ≡ true
-  more n p = of_next.more m plain well_typed k stand n p
+  more n p = of_next.more m well_typed k stand n p
 
   abbrev owner : List ℕ
   owner = f.name.name
 
   owner_in : Q owner ≡ true
-  owner_in = ap Q (of_next.again m plain well_typed k stand name (d.Function f) is) ∙ q
+  owner_in = ap Q (of_next.again m well_typed k stand name (d.Function f) is) ∙ q
 
   named : item_named name K.whole.items ≡ Some (d.Function f)
-  named = of_next.named m plain well_typed k stand name (d.Function f) is
+  named = of_next.named m well_typed k stand name (d.Function f) is
 
   owner_named : item_named owner m.items ≡ Some (d.Function f)
-  owner_named = subst (λ z. item_named z m.items ≡ Some (d.Function f)) (sym (of_next.again m plain well_typed k stand name (d.Function f) is)) is
+  owner_named = subst (λ z. item_named z m.items ≡ Some (d.Function f)) (sym (of_next.again m well_typed k stand name (d.Function f) is)) is
 
   named_own : item_named owner K.whole.items ≡ Some (d.Function f)
-  named_own = of_next.named m plain well_typed k stand owner (d.Function f) owner_named
+  named_own = of_next.named m well_typed k stand owner (d.Function f) owner_named
 
   parts : of.FunctionParts T m f
   parts = of.function_parts T m f ((λ t. list_all (T owner) (mentions_of m (sym owner_named t))) ∙ of.own_settles m k owner owner_in)
 
   -- what longer chains say, and the types and values that they say over either
   long : FunctionAlike K (globals_over K) f
-  long = (of_next.settle m plain well_typed k stand AsFunction name).function f (ap as_function named)
+  long = (of_next.settle m well_typed k stand AsFunction name).function f (ap as_function named)
 
   short : (v : ℕ) → TypesAlike (globals_over K) (globals_over (F v)) owner
-  short v = of_next.same_types m plain well_typed k stand v f owner_named owner_in
+  short v = of_next.same_types m well_typed k stand v f owner_named owner_in
 
   -- ---- types and defaults of parametrics
 
@@ -152,11 +154,13 @@ module _ (m : Module) (plain : BindsNoConstant m) (well_typed : EachItemWellType
   default_of before so_far p ps h = alike.default before ∙ long.declared.default before ∙ of.default_is owner (d.Function f) before so_far p ps h K named_own
 
   -- the signature of an instance
-  signature_over : (v : ℕ) (parametric_args : List DslxValue)
+  signature_over : (v : ℕ) (parametric_args : List DslxValue) → length parametric_args ≡ length f.parametrics
       → signature_at G owner parametric_args ≡ signature_of (item_type_env (F v) owner (parametric_args_bound [] f.parametrics parametric_args)) (Some (d.Function f))
-  signature_over v parametric_args =
+  signature_over v parametric_args many =
       let values = values_behind [] parametric_args in
-      alike.signature values ∙ long.declared.signature values ∙ (short v).signature values ∙ of.signature_is owner (d.Function f) parametric_args (F v) named_own
+      let there : item_named owner G.whole.items ≡ Some (d.Function f) = (λ i. item_named owner (sym s.known.whole i).items) ∙ named_own in
+      let here = of.of_all K owner (d.Function f) parametric_args named_own many in
+      alike.signature values (of.of_all G owner (d.Function f) parametric_args there many) ∙ long.declared.signature values here ∙ (short v).signature values here ∙ of.signature_is owner (d.Function f) parametric_args (F v) named_own
 
   -- ---- parts that break no rule
 
@@ -164,16 +168,12 @@ module _ (m : Module) (plain : BindsNoConstant m) (well_typed : EachItemWellType
   record Left (names : List (List ℕ)) (so_far : List Given) (ps : List Parametric) : Type 0 where
     given : AllGiven names so_far
     covers : of.Covers names so_far []
-    plain_names : AreNoConstants m names
-    others : AreNoConstants m (parametric_names ps)
     mentions : AllReached (parametrics_mentions ps names)
 
   left_more : (names : List (List ℕ)) (so_far : List Given) (p : Parametric) (ps : List Parametric) → Left names so_far (p ∷ ps) → (x : DslxValue) → Left (p.name.name ∷ names) (with_number so_far p x) ps
   left_more names so_far p ps l x = record {
     given = ((x, given_here p.name.name x so_far), given_more names p.name.name x so_far l.given);
     covers = of.covers_given names so_far [] p x l.covers;
-    plain_names = (l.others.0, l.plain_names);
-    others = l.others.1;
     mentions = (den_parts (T owner) m (mentioned_in_type p.ty names ++ expr_if p.default names) (parametrics_mentions ps (p.name.name ∷ names)) l.mentions).1;
   }
 
@@ -182,29 +182,37 @@ module _ (m : Module) (plain : BindsNoConstant m) (well_typed : EachItemWellType
       den_parts (T owner) m (mentioned_in_type p.ty names) (expr_if p.default names)
       (den_parts (T owner) m (mentioned_in_type p.ty names ++ expr_if p.default names) (parametrics_mentions ps (p.name.name ∷ names)) l.mentions).0
 
-  hidden : (v : ℕ) (names : List (List ℕ)) → AreNoConstants m names → NamesAlike K (F v) names
-  hidden v names h = of.plain_alike P m K (F v) (settles_closed m k) (stage_filled m v k) names h
+  given_there : (names : List (List ℕ)) (so_far : List Given) → AllGiven names so_far → of.AreBound names so_far []
+  given_there [] so_far h name q = absurd (true≢false (sym q))
+  given_there (n ∷ names) so_far h name q = by_name (bytes_eq name n) refl q (given_there names so_far h.1 name)
+    where
+      by_name : (b : Bool) → bytes_eq name n ≡ b → (if b then true else is_in name names) ≡ true → (is_in name names ≡ true → (is_there (given_in name so_far) || false) ≡ true) → (is_there (given_in name so_far) || false) ≡ true
+      by_name true e g rest = ap (λ z. is_there (given_in z so_far) || false) ((bytes_eq-Decides name n).0 e) ∙ (λ i. is_there (h.0.1 i) || false)
+      by_name false e g rest = rest g
+
+  hidden : (v : ℕ) (names : List (List ℕ)) (so_far : List Given) → AllGiven names so_far → HiddenAlike names (item_type_env K owner so_far) (F v)
+  hidden v names so_far h = of.hidden_behind P Q (λ z. P) m K (F v) (of_next.sight_low m well_typed k stand v) owner names so_far [] [] (given_there names so_far h)
 
   -- they mention what stands below
   type_den : (names : List (List ℕ)) (so_far : List Given) (p : Parametric) (ps : List Parametric) → Left names so_far (p ∷ ps) → has_broken (typing_of_type (item_type_env K owner so_far) p.ty).faults ≡ false → ExprDen (mentioned_in_type p.ty names)
   type_den names so_far p ps l w =
-      of_next.stands_below m plain well_typed k stand owner (mentioned_in_type p.ty names) (first_reached names so_far p ps l).0
+      of_next.stands_below m well_typed k stand owner (mentioned_in_type p.ty names) (first_reached names so_far p ps l).0
       (written_type_judged (uses_freely m owner) p.ty names (item_type_env K owner so_far) (stands m (2 * length m.items) owner names so_far (λ z g. (l.covers z g).0)) w)
 
   default_den : (names : List (List ℕ)) (so_far : List Given) (p : Parametric) (ps : List Parametric) → Left names so_far (p ∷ ps) → (x : Expr) → p.default ≡ Some x
       → has_broken (constant_of (item_type_env K owner so_far) (expr_pair x)).judgement.faults ≡ false → ExprDen (mentioned x names)
   default_den names so_far p ps l x e w =
-      of_next.stands_below m plain well_typed k stand owner (mentioned x names) (subst (λ o. AllReached (expr_if o names)) e (first_reached names so_far p ps l).1)
+      of_next.stands_below m well_typed k stand owner (mentioned x names) (subst (λ o. AllReached (expr_if o names)) e (first_reached names so_far p ps l).1)
       (constant_passes m (2 * length m.items) owner names so_far (λ z g. (l.covers z g).0) x w)
 
-  parameter_over : (v : ℕ) (names : List (List ℕ)) (so_far : List Given) → AreNoConstants m names → (t : TypeExpr) → ExprDen (mentioned_in_type t names)
+  parameter_over : (v : ℕ) (names : List (List ℕ)) (so_far : List Given) → AllGiven names so_far → (t : TypeExpr) → ExprDen (mentioned_in_type t names)
       → typing_of_inner (item_type_env K owner so_far) t ≡ typing_of_inner (item_type_env (F v) owner so_far) t
-  parameter_over v names so_far h t e = of.inner_at P Q (λ z. P) m K (F v) (of_next.sight_low m plain well_typed k stand v) owner owner_in names (hidden v names h) t e so_far [] []
+  parameter_over v names so_far h t e = of.inner_behind P Q (λ z. P) m K (F v) (of_next.sight_low m well_typed k stand v) owner owner_in names t e so_far [] [] (hidden v names so_far h)
 
-  default_over : (v : ℕ) (names : List (List ℕ)) (so_far : List Given) → AreNoConstants m names → (x : Expr) → ExprDen (mentioned x names)
+  default_over : (v : ℕ) (names : List (List ℕ)) (so_far : List Given) → AllGiven names so_far → (x : Expr) → ExprDen (mentioned x names)
       → default_known (item_type_env K owner so_far) x ≡ default_known (item_type_env (F v) owner so_far) x
   default_over v names so_far h x e =
-      let c = of.constant_at P Q (λ z. P) m K (F v) (of_next.sight_low m plain well_typed k stand v) owner owner_in names (hidden v names h) x e so_far [] [] in
+      let c = of.constant_behind P Q (λ z. P) m K (F v) (of_next.sight_low m well_typed k stand v) owner owner_in names x e so_far [] [] (hidden v names so_far h) in
       λ i. record { judgement = (c i).judgement; value = (c i).value }
 
   -- a part is judged with nothing wrong over either as it is by what passes
@@ -314,7 +322,7 @@ module _ (m : Module) (plain : BindsNoConstant m) (well_typed : EachItemWellType
         defaults = λ x v e z.
             let value = λ (c : DefaultSeen). c.value in
             let den = default_den names so_far p ps l x e (valued_is_whole here (expr_pair x) v (sym (ap value (at x e)) ∙ z)) in
-            same_value names so_far l.given x den ∙ first.default_means so_far x v (sym (ap value (at x e ∙ default_over 1 names so_far l.plain_names x den)) ∙ z);
+            same_value names so_far l.given x den ∙ first.default_means so_far x v (sym (ap value (at x e ∙ default_over 1 names so_far l.given x den)) ∙ z);
       }
 
       globals_of_it : IsParametricKnown G owner before p
@@ -323,13 +331,16 @@ module _ (m : Module) (plain : BindsNoConstant m) (well_typed : EachItemWellType
         typed = λ z.
             let none = ap has_broken (ap (λ (j : Judgement). j.faults) (sym (parameter_of before so_far p ps a)) ∙ z.faults) in
             let den = type_den names so_far p ps l (front (typing_of_type here p.ty).faults _ none) in
-            let same = parameter_over 1 names so_far l.plain_names p.ty den in
+            let same = parameter_over 1 names so_far l.given p.ty den in
             let r = first.typed so_far own.0 (well_typed_over 1 (G.parameter_in owner before) (typing_of_inner here p.ty) (typing_of_inner (item_type_env (F 1) owner so_far) p.ty) (parameter_of before so_far p ps a) same (type_reached names so_far p.ty den) z) in
             (r.0, ap (λ (j : Judgement). j.ty) (parameter_of before so_far p ps a ∙ same) ∙ r.1, r.2);
+        narrow = λ z t e.
+            let there = sym (parameter_of before so_far p ps a) in
+            (type_has_den p.ty).narrow here (none_in (typing_of_type here p.ty).faults _ (ap (λ (j : Judgement). j.faults) there ∙ z)).0 t (ap (λ (j : Judgement). j.ty) there ∙ e);
         default = λ x e z.
             let seen = λ (c : DefaultSeen). c.judgement in
             let den = default_den names so_far p ps l x e (ap has_broken (ap (λ (c : DefaultSeen). c.judgement.faults) (sym (at x e)) ∙ z.faults)) in
-            let to = λ (v : ℕ). default_over v names so_far l.plain_names x den in
+            let to = λ (v : ℕ). default_over v names so_far l.given x den in
             let reached = default_reached_of names so_far x den in
             default_both (G.default_in owner before) (shown 1 x) (shown 2 x) (at x e ∙ to 1) (at x e ∙ to 2)
             (first.default so_far x own.0 (well_typed_over 1 (G.default_in owner before).judgement (default_known here x).judgement (shown 1 x).judgement (ap seen (at x e)) (ap seen (to 1)) reached z))
@@ -414,11 +425,11 @@ module _ (m : Module) (plain : BindsNoConstant m) (well_typed : EachItemWellType
       let own = own_both [] [] none_bound f.parametrics all_left parametric_args fit in
       (own_bound (types 1) [] f.parametrics parametric_args (none_own (F 1)) own.0, own_bound (types 2) [] f.parametrics parametric_args (none_own (F 2)) own.1)
 
-  result_is : (v : ℕ) (parametric_args : List DslxValue) → (signature_at G owner parametric_args).result ≡ (result_typing (item_type_env (F v) owner (parametric_args_bound [] f.parametrics parametric_args)) f.result).ty
-  result_is v parametric_args = ap (λ (x : Signature). x.result) (signature_over v parametric_args)
+  result_is : (v : ℕ) (parametric_args : List DslxValue) → length parametric_args ≡ length f.parametrics → (signature_at G owner parametric_args).result ≡ (result_typing (item_type_env (F v) owner (parametric_args_bound [] f.parametrics parametric_args)) f.result).ty
+  result_is v parametric_args many = ap (λ (x : Signature). x.result) (signature_over v parametric_args many)
 
-  arguments_are : (v : ℕ) (parametric_args : List DslxValue) → (signature_at G owner parametric_args).arguments ≡ argument_types v (parametric_args_bound [] f.parametrics parametric_args) f.arguments
-  arguments_are v parametric_args = ap (λ (x : Signature). x.arguments) (signature_over v parametric_args)
+  arguments_are : (v : ℕ) (parametric_args : List DslxValue) → length parametric_args ≡ length f.parametrics → (signature_at G owner parametric_args).arguments ≡ argument_types v (parametric_args_bound [] f.parametrics parametric_args) f.arguments
+  arguments_are v parametric_args many = ap (λ (x : Signature). x.arguments) (signature_over v parametric_args many)
 
   nothing_in : {A : Type 0} (xs : List A) → is_empty xs ≡ true → xs ≡ []
   nothing_in [] e = refl
@@ -431,7 +442,7 @@ module _ (m : Module) (plain : BindsNoConstant m) (well_typed : EachItemWellType
   sound_here parametric_args e =
       let same : 2 * length m.items ≤ 2 * length m.items = omega arith in
       let longer : 2 * length m.items ≤ suc (2 * length m.items) = omega arith in
-      sym (of.instances_settle m plain (2 * length m.items) (suc (2 * length m.items)) same longer (instance_of parametric_args) f (ap as_function owner_named)).0
+      sym (of.instances_settle m (2 * length m.items) (suc (2 * length m.items)) same longer (instance_of parametric_args) f (ap as_function owner_named)).0
       ∙ s.known.sound (instance_of parametric_args) owner_in ∙ e
 
   -- an instance that is sound doesn't reach itself
@@ -455,13 +466,13 @@ module _ (m : Module) (plain : BindsNoConstant m) (well_typed : EachItemWellType
 
   over : (v : ℕ) (parametric_args : List DslxValue) → G.is_sound (instance_of parametric_args) ≡ true → CalleeAlike (globals_over K) (globals_over (F v)) name
   over v parametric_args e =
-      of.uses_over P (of.mentions_pass P m) (λ z. P) m K (F v) (sight_filled m v k) (λ z g. g) plain AsFunction name
-      (λ u. subst (λ z. of.mentions_pass P m z ≡ true) (of_next.again m plain well_typed k stand name (d.Function f) is) (own_here parametric_args e))
+      of.uses_over P (of.mentions_pass P m) (λ z. P) m K (F v) (sight_filled m v k) (λ z g. g) AsFunction name
+      (λ u. subst (λ z. of.mentions_pass P m z ≡ true) (of_next.again m well_typed k stand name (d.Function f) is) (own_here parametric_args e))
 
   sound : (v : ℕ) (parametric_args : List DslxValue) → G.is_sound (instance_of parametric_args) ≡ true → sound_instance K (instance_of parametric_args) ≡ sound_instance (F v) (instance_of parametric_args)
   sound v parametric_args e =
       let R = of.mentions_pass P m in
-      (of.globals_over_alike P R (λ z. P) m K (F v) (sight_filled m v k) (λ z g. g) plain (stage_filled m v k).reached (of.unless_proc R m)
+      (of.globals_over_alike P R (λ z. P) m K (F v) (sight_filled m v k) (λ z g. g) (stage_filled m v k).reached (of.unless_proc R m)
       (λ z g. let r = of.and_both (R z) (not (of.is_proc_item (item_named z m.items))) g in (r.0, of.not_true (of.is_proc_item (item_named z m.items)) r.1))).sound
       (instance_of parametric_args) (λ t. own_here parametric_args e t && not (of.is_proc_item (owner_named t)))
 
@@ -469,7 +480,7 @@ module _ (m : Module) (plain : BindsNoConstant m) (well_typed : EachItemWellType
   instance_well_typed v parametric_args e =
       let found = found_of_instance (F v) (instance_of parametric_args) in
       let both = of.and_both (is_empty found.faults) (list_all (F v).is_sound found.reached) (sym (sound v parametric_args e) ∙ sound_here parametric_args e) in
-      let here : item_named owner K.whole.items ≡ Some (d.Function f) = of_next.named m plain well_typed k stand owner (d.Function f) owner_named in
+      let here : item_named owner K.whole.items ≡ Some (d.Function f) = of_next.named m well_typed k stand owner (d.Function f) owner_named in
       subst (IsWellTypedFound (F v)) (ap (found_of_item (F v) parametric_args) here) (record { faults = nothing_in found.faults both.0; reached = both.1 })
 
   arguments_well_typed : (parametric_args : List DslxValue) → G.is_sound (instance_of parametric_args) ≡ true → IsWellTypedFound (F 1) (arguments_found (function_type_env (F 1) f parametric_args) [] f.arguments)
@@ -488,7 +499,7 @@ module _ (m : Module) (plain : BindsNoConstant m) (well_typed : EachItemWellType
 
   loops : (parametric_args : List DslxValue) → G.is_sound (instance_of parametric_args) ≡ true → item_reaches K.whole name name ≡ false
   loops parametric_args e =
-      (λ i. item_reaches (of_next.text m plain well_typed k stand i) name name) ∙ subst (λ z. item_reaches m z z ≡ false) (of_next.again m plain well_typed k stand name (d.Function f) is) (free_here parametric_args e)
+      (λ i. item_reaches (of_next.text m well_typed k stand i) name name) ∙ subst (λ z. item_reaches m z z ≡ false) (of_next.again m well_typed k stand name (d.Function f) is) (free_here parametric_args e)
 
   -- a call is of the instance
   call_is : (parametric_args given operands : List DslxValue) → G.is_sound (instance_of parametric_args) ≡ true → all_parametric_args G.items (inferred_from f.arguments (map type_of_value operands)) [] f.parametrics given ≡ Some parametric_args
@@ -499,49 +510,50 @@ module _ (m : Module) (plain : BindsNoConstant m) (well_typed : EachItemWellType
       let one = parametric_args_one K.items (F 1).items inferred [] [] tt f.parametrics given (of.agreeing P m K (F 1) (settles_closed m k) (stage_filled m 1 k) ms (parts_below parametric_args e).parametrics) in
       let two = parametric_args_one K.items G.items inferred [] [] tt f.parametrics given (of.agreeing Q m K G (settles_closed m (suc k)) s ms (wider (names_mentioned m ms) (parts_below parametric_args e).parametrics)) in
       sym ((s.uses AsFunction name (λ e. q)).call given operands)
-      ∙ (of_next.settle m plain well_typed k stand AsFunction name).call given operands
+      ∙ (of_next.settle m well_typed k stand AsFunction name).call given operands
       ∙ (over 1 parametric_args e).call given operands
       ∙ ap (λ loops. call_unless loops (and_then (as_function (item_named name K.whole.items)) (λ g. call_of (F 1).items g given operands))) (loops parametric_args e)
       ∙ ap (λ o. and_then (as_function o) (λ g. call_of (F 1).items g given operands)) named
       ∙ ap (λ o. and_then o (λ ns. function_value (F 1).items f ns operands)) (sym one ∙ two ∙ h)
 
   -- so is the size of its body
-  size_is : (parametric_args : List DslxValue) → G.is_sound (instance_of parametric_args) ≡ true → G.body_size (instance_of parametric_args) ≡ (function_seen (F 1) f parametric_args).body.size
-  size_is parametric_args e =
-      let here : item_named owner K.whole.items ≡ Some (d.Function f) = of_next.named m plain well_typed k stand owner (d.Function f) owner_named in
-      sym (((s.uses AsFunction name (λ e. q)).function f (ap as_function named)).size parametric_args) ∙ long.size parametric_args ∙ ((over 1 parametric_args e).function f (ap as_function named)).size parametric_args ∙ ap (λ o. size_known (F 1) parametric_args (as_function o)) here
+  size_is : (parametric_args : List DslxValue) → length parametric_args ≡ length f.parametrics → G.is_sound (instance_of parametric_args) ≡ true → G.body_size (instance_of parametric_args) ≡ (function_seen (F 1) f parametric_args).body.size
+  size_is parametric_args many e =
+      let here : item_named owner K.whole.items ≡ Some (d.Function f) = of_next.named m well_typed k stand owner (d.Function f) owner_named in
+      sym (((s.uses AsFunction name (λ e. q)).function f (ap as_function named)).size parametric_args many) ∙ long.size parametric_args many ∙ ((over 1 parametric_args e).function f (ap as_function named)).size parametric_args many ∙ ap (λ o. size_known (F 1) parametric_args (as_function o)) here
 
   callable : (parametric_args : List DslxValue) → FitParametricArgs G owner [] f.parametrics parametric_args → G.is_sound (instance_of parametric_args) ≡ true → IsCallable G f name parametric_args
   callable parametric_args fit e =
       let bound = parametric_args_bound [] f.parametrics parametric_args in
+      let many = of.fit_many G owner [] f.parametrics parametric_args fit in
       let own = own_both [] [] none_bound f.parametrics all_left parametric_args fit in
       let one = instance_has_value (F 1) (complete 1) (typed 1) f parametric_args own.0 (instance_well_typed 1 parametric_args e) in
       let two = instance_has_value (F 2) (complete 2) (typed 2) f parametric_args own.1 (instance_well_typed 2 parametric_args e) in
-      let same = same_some two.result one.result (sym two.typed ∙ sym (result_is 2 parametric_args) ∙ result_is 1 parametric_args ∙ one.typed) in
+      let same = same_some two.result one.result (sym two.typed ∙ sym (result_is 2 parametric_args many) ∙ result_is 1 parametric_args many ∙ one.typed) in
       let declared = carry one.result one.declared (subst (IsDeclared (types 2)) same two.declared) in
       let operands_of = λ (operands : List DslxValue) (fits : FitArguments next (signature_at G owner parametric_args).arguments operands).
-      operands_from bound (bound_both parametric_args fit) [] f.arguments (arguments_well_typed parametric_args e) operands (subst (λ ts. FitArguments next ts operands) (arguments_are 1 parametric_args) fits) in
+      operands_from bound (bound_both parametric_args fit) [] f.arguments (arguments_well_typed parametric_args e) operands (subst (λ ts. FitArguments next ts operands) (arguments_are 1 parametric_args many) fits) in
       record {
         result = one.result;
-        typed = result_is 1 parametric_args ∙ one.typed;
+        typed = result_is 1 parametric_args many ∙ one.typed;
         gives = λ given operands h fits.
             let g = one.gives operands (operands_of operands fits) in
             record { value = g.value; is = call_is parametric_args given operands e h ∙ g.is; of = g.of; declared = declared };
         sized = λ operands fits.
             let n = one.sized operands (operands_of operands fits) in
-            (n.0, size_is parametric_args e ∙ n.1);
+            (n.0, size_is parametric_args many e ∙ n.1);
       }
 
   pub function_next : IsFunctionKnown G name f
   function_next =
-      let names = (plain owner f (ap as_function owner_named)).0 in
-      let both = parametric_args_known [] [] [] f.parametrics (record { given = tt; covers = λ z g. (refl, refl); plain_names = tt; others = names; mentions = parts.parametrics }) none_bound all_left in
+      let both = parametric_args_known [] [] [] f.parametrics (record { given = tt; covers = λ z g. (refl, refl); mentions = parts.parametrics }) none_bound all_left in
       record {
         mean = both.0;
         parametrics = both.1;
         arguments = λ parametric_args fit.
             let bound = parametric_args_bound [] f.parametrics parametric_args in
-            subst (λ ts. EachArgumentDeclared next ts f.arguments) (sym (arguments_are 1 parametric_args))
-            (arguments_known bound (bound_both parametric_args fit) f.arguments (sym (arguments_are 1 parametric_args) ∙ arguments_are 2 parametric_args));
+            let many = of.fit_many G owner [] f.parametrics parametric_args fit in
+            subst (λ ts. EachArgumentDeclared next ts f.arguments) (sym (arguments_are 1 parametric_args many))
+            (arguments_known bound (bound_both parametric_args fit) f.arguments (sym (arguments_are 1 parametric_args many) ∙ arguments_are 2 parametric_args many));
         calls = λ parametric_args fit e. callable parametric_args fit e;
       }

@@ -81,9 +81,9 @@ module _ (m : Module) (w k : ℕ) where
     declared = record {
       parameter = λ before. pass (P f.name.name) (K.parameter_in f.name.name before) refused p;
       default = λ before. pass (P f.name.name) (K.default_in f.name.name before) nothing_seen p;
-      signature = λ values. pass (P f.name.name) (K.signature_in f.name.name values) (nothing_typed (item_named f.name.name K.whole.items)) p;
+      signature = λ values many. pass (P f.name.name) (K.signature_in f.name.name values) (nothing_typed (item_named f.name.name K.whole.items)) p;
     };
-    size = λ parametric_args. refl;
+    size = λ parametric_args many. refl;
   }
 
   used : (u : Use) (name : List ℕ) → P name ≡ true → UseAlike K F u name

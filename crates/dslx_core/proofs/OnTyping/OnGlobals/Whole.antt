@@ -17,7 +17,6 @@ use Rattle.dslx_core.specs.Typing.Typed.Given.{GivesOf}
 use Rattle.dslx_core.proofs.Lemmas.Typing.Typed.{none_some, same_some}
 use Rattle.dslx_core.proofs.Lemmas.Typing.TypingRelations.{function_is, instances_reach, den_reach, whole_is}
 use Rattle.dslx_core.specs.Typing.Depends.Alike.{DeclaredAlike, UseAlike}
-use Rattle.dslx_core.specs.Typing.Depends.Settled.{BindsNoConstant}
 use Rattle.dslx_core.proofs.Lemmas.Typing.Depends as of
 use Rattle.dslx_core.proofs.Lemmas.Typing.Depends.{every_item_settles, settles, settles_closed}
 use Rattle.dslx_core.specs.Typing.Complete.HasValue.{AreTyped, DeclareMore}
@@ -40,7 +39,7 @@ no_constant_use (Some (d.Struct s)) e = refl
 no_constant_use (Some (d.Enum n)) e = refl
 no_constant_use None e = refl
 
-module _ (m : Module) (plain : BindsNoConstant m) (well_typed : EachItemWellTyped m) where
+module _ (m : Module) (well_typed : EachItemWellTyped m) where
   abbrev K : GlobalEnv
   K = globals_of m
 
@@ -73,23 +72,23 @@ module _ (m : Module) (plain : BindsNoConstant m) (well_typed : EachItemWellType
   alike_filled w k owner p = record {
     parameter = λ before. sym (pass (settles m k owner) (K.parameter_in owner before) refused p);
     default = λ before. sym (pass (settles m k owner) (K.default_in owner before) (record { judgement = refused; value = None }) p);
-    signature = λ values. sym (pass (settles m k owner) (K.signature_in owner values) (nothing_typed (item_named owner K.whole.items)) p);
+    signature = λ values many. sym (pass (settles m k owner) (K.signature_in owner values) (nothing_typed (item_named owner K.whole.items)) p);
   }
 
   one_more : (k : ℕ) → ((w : ℕ) → PassingHaveValues w (settles m k) K) → (w : ℕ) → PassingHaveValues w (settles m (suc k)) K
   one_more k stand w = record {
     kinds = (stand w).kinds;
     others = (stand w).others;
-    constants = λ name q c. let r = constant_item (item_named name m.items) (at_text name is_constant_item ∙ c) in of_next.constant_next m plain well_typed k stand w name r.0 q r.1;
-    types = λ name q u. of_next.type_next m plain well_typed k stand name q (at_text name (is_of_use AsType) ∙ u);
-    declared = λ name t q e. of_next.declared_next m plain well_typed k stand w name t q e;
-    parts = λ name own fields ts q e. of_next.parts_next m plain well_typed k stand w name own fields ts q e;
-    structs = λ name s q e. of_next.struct_next m plain well_typed k stand w name s q (struct_item (item_named name m.items) s (at_text name as_struct ∙ e));
-    members = λ name member x t q e h z. of_next.member_next m plain well_typed k stand w name member x t q (enum_item (item_named name m.items) x (at_text name as_enum ∙ e)) h z;
+    constants = λ name q c. let r = constant_item (item_named name m.items) (at_text name is_constant_item ∙ c) in of_next.constant_next m well_typed k stand w name r.0 q r.1;
+    types = λ name q u. of_next.type_next m well_typed k stand name q (at_text name (is_of_use AsType) ∙ u);
+    declared = λ name t q e. of_next.declared_next m well_typed k stand w name t q e;
+    parts = λ name own fields ts q e. of_next.parts_next m well_typed k stand w name own fields ts q e;
+    structs = λ name s q e. of_next.struct_next m well_typed k stand w name s q (struct_item (item_named name m.items) s (at_text name as_struct ∙ e));
+    members = λ name member x t q e h z. of_next.member_next m well_typed k stand w name member x t q (enum_item (item_named name m.items) x (at_text name as_enum ∙ e)) h z;
     functions = λ name f q e.
         let is = function_is (item_named name m.items) f (at_text name as_function ∙ e) in
-        function_next m plain well_typed k stand (filled w (settles m (suc k)) K) (stage_filled m w (suc k)) (of_next.carry m plain well_typed k stand w) name f is q
-        (alike_filled w (suc k) f.name.name (ap (settles m (suc k)) (of_next.again m plain well_typed k stand name (d.Function f) is) ∙ q));
+        function_next m well_typed k stand (filled w (settles m (suc k)) K) (stage_filled m w (suc k)) (of_next.carry m well_typed k stand w) name f is q
+        (alike_filled w (suc k) f.name.name (ap (settles m (suc k)) (of_next.again m well_typed k stand name (d.Function f) is) ∙ q));
   }
 
   stands : (k w : ℕ) → PassingHaveValues w (settles m k) K
@@ -158,7 +157,7 @@ module _ (m : Module) (plain : BindsNoConstant m) (well_typed : EachItemWellType
   one_use AsType name = refl
   one_use AsFunction name = record {
     call = λ parametric_args operands. refl;
-    function = λ f e. record { declared = record { parameter = λ before. refl; default = λ before. refl; signature = λ values. refl }; size = λ parametric_args. refl };
+    function = λ f e. record { declared = record { parameter = λ before. refl; default = λ before. refl; signature = λ values many. refl }; size = λ parametric_args many. refl };
   }
   one_use AsProc name = tt
   one_use AsEnum name = record { ty = λ e q. refl; members = λ member. refl }
@@ -191,9 +190,9 @@ module _ (m : Module) (plain : BindsNoConstant m) (well_typed : EachItemWellType
     functions = λ name f e.
         let is = function_is (item_named name m.items) f (at_text name as_function ∙ e) in
         let here = every_item_settles m name (d.Function f) is refl in
-        function_next m plain well_typed (length m.items) (stands (length m.items)) K (stage_whole (suc (length m.items))) (λ t one two. stays t one) name f is
-        (of_next.more m plain well_typed (length m.items) (stands (length m.items)) name here)
-        (record { parameter = λ before. refl; default = λ before. refl; signature = λ values. refl });
+        function_next m well_typed (length m.items) (stands (length m.items)) K (stage_whole (suc (length m.items))) (λ t one two. stays t one) name f is
+        (of_next.more m well_typed (length m.items) (stands (length m.items)) name here)
+        (record { parameter = λ before. refl; default = λ before. refl; signature = λ values many. refl });
   }
 
   pub all_typed : AreTyped K

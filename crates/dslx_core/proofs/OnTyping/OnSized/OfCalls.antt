@@ -12,24 +12,24 @@ use Rattle.dslx_tree.specs.declared.process.Direction.TheVariants.{In, Out}
 use Rattle.dslx_meaning.specs.Callees.{AllOnes, CallKind, Calls, CountsLeading, CountsTrailing, Joins, Parity, Receives, ReceivesIf, Reverses, Sends, SendsIf, SomeOne, Updates, is_text_function}
 use Rattle.dslx_meaning.specs.Inference.{Inferred}
 use Rattle.dslx_meaning.specs.Items.{as_function, item_named}
-use Rattle.dslx_meaning.specs.Lists.{and_then}
+use Rattle.dslx_meaning.specs.Lists.{all_some, and_then}
 use Rattle.dslx_meaning.specs.declared.ty.DslxType.{DslxType}
 use Rattle.dslx_meaning.specs.declared.value.DslxValue.{DslxValue}
 use Rattle.dslx_meaning.specs.Rules.AggregateRules.{wanted_faults, when_all}
 use Rattle.dslx_meaning.specs.Rules.OperatorRules.{is_bool, unless_type}
-use Rattle.dslx_meaning.specs.Rules.CallRules.{Before, ParametricArgsSeen, ParametricArgument, and_parametric, builtin_typing, call_parametric_args, call_parts_faults, call_parts_reached, call_type, call_typing, callee_size, channel_named, channel_seen, counting, effect_with, first_operand_type, function_call, given_judgements, given_parametric_args, has_right_count, held_typing, inferred_by, is_refused, known_before, maybe_inferred, of_type, only_on_top, operand_faults, parametric_args_seen, parametric_type, reached_by, receiving, receiving_if, resolved_value, right_call, sending, sending_if, signature_seen, token_typing, typing_there, unnumbered_effect, updating, value_before, without_parametric_args, word_of, wrong_call, wrong_effect}
+use Rattle.dslx_meaning.specs.Rules.CallRules.{Before, ParametricArgsSeen, ParametricArgument, and_parametric, builtin_typing, call_parametric_args, call_parts_faults, call_parts_reached, call_type, call_typing, callee_size, channel_end_at, channel_named, channel_seen, counting, effect_with, first_operand_type, function_call, given_judgements, given_parametric_args, has_right_count, held_typing, inferred_by, is_refused, known_before, maybe_inferred, of_type, only_on_top, operand_faults, parametric_args_seen, parametric_type, reached_by, receiving, receiving_if, resolved_value, right_call, sending, sending_if, signature_seen, site_faults, token_typing, typing_there, unnumbered_effect, updating, value_before, without_parametric_args, word_of, wrong_call, wrong_effect}
 use Rattle.dslx_meaning.specs.Rules.ConstantRules.{constant_of}
 use Rattle.dslx_meaning.specs.Rules.Mentions.{AsFunction, Mention, Mentions, all_mentions, mention}
 use Rattle.dslx_meaning.specs.Rules.PatternRules.{is_there}
-use Rattle.dslx_meaning.specs.Rules.TypeEnvs.{ExprPair, GlobalEnv, Instance, Judgement, TypeEnv, all_alone, alone, breaks_if, name_of_expr, one_and, plus_size, reached_of_all, size_of_all, span_of, types_of, within}
+use Rattle.dslx_meaning.specs.Rules.TypeEnvs.{ChannelEnd, ExprPair, GlobalEnv, Instance, Judgement, TypeEnv, all_alone, alone, breaks_if, faults_of_all, name_of_expr, one_and, plus_size, reached_of_all, size_of_all, span_of, types_of, within}
 use Rattle.dslx_meaning.specs.Rules.Typings.{ArgPair}
 use Rattle.dslx_meaning.specs.Types.{bool_type, received}
 use Rattle.dslx_meaning.specs.declared.ty.DslxType as ty
-use Rattle.dslx_core.specs.Typing.TypingRelations.Called.{called}
+use Rattle.dslx_core.specs.Typing.TypingRelations.Called.{named}
 use Rattle.dslx_core.specs.Typing.TypingRelations.Cycles.{AllUsed}
 use Rattle.dslx_core.specs.Typing.TypingRelations.Reached.{AllNamed}
 use Rattle.dslx_core.proofs.OnTyping.OnCycles.Parts.{front, join, join_three}
-use Rattle.dslx_core.proofs.OnTyping.OnSized.Parts.{HasCalls, first_there, named_parts, nothing_there, one_less, rest_sized, sized_inside, three_named, three_sizes, two_sizes, two_there, typed_size, unmarked_sized}
+use Rattle.dslx_core.proofs.OnTyping.OnSized.Parts.{HasCalls, first_there, named_parts, nothing_there, one_less, rest_sized, second_there, sized_inside, three_named, three_sizes, two_sizes, two_there, typed_size, unmarked_sized}
 use Rattle.dslx_core.proofs.OnTyping.OnTyped.TypingRelations.{rule_holds, unbroken_parts}
 use Rattle.dslx_core.proofs.OnTyping.OnTyping.OfItems.{function_is, item_so_named}
 
@@ -63,49 +63,49 @@ callee_passes P true name o e h k = absurd (true≢false e)
 callee_passes P false name None e h k = nothing_there h
 callee_passes P false name (Some vs) e h k = k.0
 
-module _ (P : List ℕ → Bool) (bound : List (List ℕ)) (context : TypeEnv) where
+module _ (P U : List ℕ → Bool) (bound : List (List ℕ)) (context : TypeEnv) where
   -- ---- operands
 
   -- each operand that has a size mentions none but what passes, where all that it reaches does
   abbrev pub EachSized : List ExprPair → List Mentions → Type 0
-  EachSized [] mss = AllUsed (called P) (all_mentions mss bound)
+  EachSized [] mss = AllUsed (named P U) (all_mentions mss bound)
   EachSized (e ∷ es) [] = Unit {0}
-  EachSized (e ∷ es) (ms ∷ mss) = HasCalls P (within context e) (ms bound) × EachSized es mss
+  EachSized (e ∷ es) (ms ∷ mss) = HasCalls P U (within context e) (ms bound) × EachSized es mss
 
-  -- each that is a name mentions no function
+  -- each that is a name mentions no function, and nothing unknown where it is a member's
   abbrev pub EachNamed : List ExprPair → List Mentions → Type 0
   EachNamed [] mss = Unit {0}
   EachNamed (e ∷ es) [] = Unit {0}
-  EachNamed (e ∷ es) (ms ∷ mss) = ((name : List ℕ) → name_of_expr e ≡ Some name → AllUsed (called P) (ms bound)) × EachNamed es mss
+  EachNamed (e ∷ es) (ms ∷ mss) = ((name : List ℕ) → name_of_expr e ≡ Some name → is_there (channel_end_at context name) ≡ true → AllUsed (named P U) (ms bound)) × EachNamed es mss
 
-  alone_sized : (es : List ExprPair) (mss : List Mentions) → EachSized es mss → is_there (size_of_all (all_alone context es)) ≡ true → AllNamed P (reached_of_all (all_alone context es)) → AllUsed (called P) (all_mentions mss bound)
+  alone_sized : (es : List ExprPair) (mss : List Mentions) → EachSized es mss → is_there (size_of_all (all_alone context es)) ≡ true → AllNamed P (reached_of_all (all_alone context es)) → AllUsed (named P U) (all_mentions mss bound)
   alone_sized [] mss c h k = c
   alone_sized (e ∷ es) [] c h k = tt
   alone_sized (e ∷ es) (ms ∷ mss) c h k =
       let r = two_sizes (alone context e).size (size_of_all (all_alone context es)) h in
       let q = named_parts P (alone context e).reached (reached_of_all (all_alone context es)) k in
-      join (called P) (ms bound) (all_mentions mss bound) (unmarked_sized P (ms bound) (span_of e) (within context e) c.0 r.0 q.0) (alone_sized es mss c.1 r.1 q.1)
+      join (named P U) (ms bound) (all_mentions mss bound) (unmarked_sized P U (ms bound) (span_of e) (within context e) c.0 r.0 q.0) (alone_sized es mss c.1 r.1 q.1)
 
-  tokens_sized : (es : List ExprPair) (mss : List Mentions) → EachSized es mss → is_there (size_of_all (map (token_typing context) es)) ≡ true → AllNamed P (reached_of_all (map (token_typing context) es)) → AllUsed (called P) (all_mentions mss bound)
+  tokens_sized : (es : List ExprPair) (mss : List Mentions) → EachSized es mss → is_there (size_of_all (map (token_typing context) es)) ≡ true → AllNamed P (reached_of_all (map (token_typing context) es)) → AllUsed (named P U) (all_mentions mss bound)
   tokens_sized [] mss c h k = c
   tokens_sized (e ∷ es) [] c h k = tt
   tokens_sized (e ∷ es) (ms ∷ mss) c h k =
       let r = two_sizes (token_typing context e).size (size_of_all (map (token_typing context) es)) h in
       let q = named_parts P (token_typing context e).reached (reached_of_all (map (token_typing context) es)) k in
-      join (called P) (ms bound) (all_mentions mss bound) (c.0 r.0 q.0) (tokens_sized es mss c.1 r.1 q.1)
+      join (named P U) (ms bound) (all_mentions mss bound) (c.0 r.0 q.0) (tokens_sized es mss c.1 r.1 q.1)
 
   -- each parametric argument that has a value
   abbrev pub EachValued : List ArgPair → List Mentions → Type 0
-  EachValued [] mss = AllUsed (called P) (all_mentions mss bound)
+  EachValued [] mss = AllUsed (named P U) (all_mentions mss bound)
   EachValued (a ∷ as') [] = Unit {0}
-  EachValued (a ∷ as') (ms ∷ mss) = (is_there (constant_of context a.1).value ≡ true → AllNamed P (constant_of context a.1).judgement.reached → AllUsed (called P) (ms bound)) × EachValued as' mss
+  EachValued (a ∷ as') (ms ∷ mss) = (is_there (constant_of context a.1).value ≡ true → AllNamed P (constant_of context a.1).judgement.reached → AllUsed (named P U) (ms bound)) × EachValued as' mss
 
-  given_valued : (as' : List ArgPair) (mss : List Mentions) → EachValued as' mss → AllValued (given_parametric_args context as') → AllNamed P (reached_of_all (given_judgements (given_parametric_args context as'))) → AllUsed (called P) (all_mentions mss bound)
+  given_valued : (as' : List ArgPair) (mss : List Mentions) → EachValued as' mss → AllValued (given_parametric_args context as') → AllNamed P (reached_of_all (given_judgements (given_parametric_args context as'))) → AllUsed (named P U) (all_mentions mss bound)
   given_valued [] mss c h k = c
   given_valued (a ∷ as') [] c h k = tt
   given_valued (a ∷ as') (ms ∷ mss) c h k =
       let q = named_parts P (constant_of context a.1).judgement.reached (reached_of_all (given_judgements (given_parametric_args context as'))) k in
-      join (called P) (ms bound) (all_mentions mss bound) (c.0 h.0 q.0) (given_valued as' mss c.1 h.1 q.1)
+      join (named P U) (ms bound) (all_mentions mss bound) (c.0 h.0 q.0) (given_valued as' mss c.1 h.1 q.1)
 
   -- ---- calls of functions
 
@@ -161,7 +161,7 @@ module _ (P : List ℕ → Bool) (bound : List (List ℕ)) (context : TypeEnv) w
   -- ---- builtins
 
   counting_sized : (span : Span) (es : List ExprPair) (mss : List Mentions) (t : Option DslxType) → EachSized es mss → is_there (counting span es (all_alone context es) t).size ≡ true → AllNamed P (counting span es (all_alone context es) t).reached
-      → AllUsed (called P) (all_mentions mss bound)
+      → AllUsed (named P U) (all_mentions mss bound)
   counting_sized span [] mss t c h k = c
   counting_sized span (e ∷ []) mss t c h k =
       let j = alone context e in
@@ -178,22 +178,22 @@ module _ (P : List ℕ → Bool) (bound : List (List ℕ)) (context : TypeEnv) w
 
   -- as many sizes as operands
   three_operands : (a b c : ExprPair) (mss : List Mentions) → EachSized (a ∷ b ∷ c ∷ []) mss → is_there (alone context a).size ≡ true → is_there (alone context b).size ≡ true → is_there (alone context c).size ≡ true
-      → AllNamed P (((alone context a).reached ++ (alone context b).reached) ++ (alone context c).reached) → AllUsed (called P) (all_mentions mss bound)
+      → AllNamed P (((alone context a).reached ++ (alone context b).reached) ++ (alone context c).reached) → AllUsed (named P U) (all_mentions mss bound)
   three_operands a b c [] s x y z k = tt
   three_operands a b c (ma ∷ []) s x y z k =
       let q = three_named P (alone context a).reached (alone context b).reached (alone context c).reached k in
-      join (called P) (ma bound) [] (unmarked_sized P (ma bound) (span_of a) (within context a) s.0 x q.0) tt
+      join (named P U) (ma bound) [] (unmarked_sized P U (ma bound) (span_of a) (within context a) s.0 x q.0) tt
   three_operands a b c (ma ∷ mb ∷ []) s x y z k =
       let q = three_named P (alone context a).reached (alone context b).reached (alone context c).reached k in
-      join (called P) (ma bound) (mb bound ++ []) (unmarked_sized P (ma bound) (span_of a) (within context a) s.0 x q.0)
-      (join (called P) (mb bound) [] (unmarked_sized P (mb bound) (span_of b) (within context b) s.1.0 y q.1) tt)
+      join (named P U) (ma bound) (mb bound ++ []) (unmarked_sized P U (ma bound) (span_of a) (within context a) s.0 x q.0)
+      (join (named P U) (mb bound) [] (unmarked_sized P U (mb bound) (span_of b) (within context b) s.1.0 y q.1) tt)
   three_operands a b c (ma ∷ mb ∷ mc ∷ mss) s x y z k =
       let q = three_named P (alone context a).reached (alone context b).reached (alone context c).reached k in
-      join (called P) (ma bound) (mb bound ++ (mc bound ++ all_mentions mss bound)) (unmarked_sized P (ma bound) (span_of a) (within context a) s.0 x q.0)
-      (join (called P) (mb bound) (mc bound ++ all_mentions mss bound) (unmarked_sized P (mb bound) (span_of b) (within context b) s.1.0 y q.1)
-      (join (called P) (mc bound) (all_mentions mss bound) (unmarked_sized P (mc bound) (span_of c) (within context c) s.1.1.0 z q.2) s.1.1.1))
+      join (named P U) (ma bound) (mb bound ++ (mc bound ++ all_mentions mss bound)) (unmarked_sized P U (ma bound) (span_of a) (within context a) s.0 x q.0)
+      (join (named P U) (mb bound) (mc bound ++ all_mentions mss bound) (unmarked_sized P U (mb bound) (span_of b) (within context b) s.1.0 y q.1)
+      (join (named P U) (mc bound) (all_mentions mss bound) (unmarked_sized P U (mc bound) (span_of c) (within context c) s.1.1.0 z q.2) s.1.1.1))
 
-  updating_sized : (span : Span) (es : List ExprPair) (mss : List Mentions) → EachSized es mss → is_there (updating span es (all_alone context es)).size ≡ true → AllNamed P (updating span es (all_alone context es)).reached → AllUsed (called P) (all_mentions mss bound)
+  updating_sized : (span : Span) (es : List ExprPair) (mss : List Mentions) → EachSized es mss → is_there (updating span es (all_alone context es)).size ≡ true → AllNamed P (updating span es (all_alone context es)).reached → AllUsed (named P U) (all_mentions mss bound)
   updating_sized span [] mss c h k = c
   updating_sized span (a ∷ []) mss c h k = wrong_sized span [] (all_alone context (a ∷ [])) [] h
   updating_sized span (a ∷ b ∷ []) mss c h k = wrong_sized span [] (all_alone context (a ∷ b ∷ [])) [] h
@@ -203,11 +203,11 @@ module _ (P : List ℕ → Bool) (bound : List (List ℕ)) (context : TypeEnv) w
       three_operands a b w mss c s.0 s.1 s.2 k
   updating_sized span (a ∷ b ∷ w ∷ e ∷ es) mss c h k = wrong_sized span [] (all_alone context (a ∷ b ∷ w ∷ e ∷ es)) [] h
 
-  joining_sized : (span : Span) (es : List ExprPair) (mss : List Mentions) → EachSized es mss → is_there (builtin_typing Joins span es context).size ≡ true → AllNamed P (builtin_typing Joins span es context).reached → AllUsed (called P) (all_mentions mss bound)
+  joining_sized : (span : Span) (es : List ExprPair) (mss : List Mentions) → EachSized es mss → is_there (builtin_typing Joins span es context).size ≡ true → AllNamed P (builtin_typing Joins span es context).reached → AllUsed (named P U) (all_mentions mss bound)
   joining_sized span es mss c h k = tokens_sized es mss c (rest_sized (builtin_typing Joins span es context).ty (size_of_all (map (token_typing context) es)) h) k
 
   builtin_sized : (kind : CallKind) (span : Span) (es : List ExprPair) (mss : List Mentions) → EachSized es mss → is_there (builtin_typing kind span es context).size ≡ true → AllNamed P (builtin_typing kind span es context).reached
-      → AllUsed (called P) (all_mentions mss bound)
+      → AllUsed (named P U) (all_mentions mss bound)
   builtin_sized Joins span es mss c h k = joining_sized span es mss c h k
   builtin_sized CountsLeading span es mss c h k = counting_sized span es mss (first_operand_type (all_alone context es)) c h k
   builtin_sized CountsTrailing span es mss c h k = counting_sized span es mss (first_operand_type (all_alone context es)) c h k
@@ -224,13 +224,13 @@ module _ (P : List ℕ → Bool) (bound : List (List ℕ)) (context : TypeEnv) w
 
   -- ---- effects
 
-  -- the channel is a name, or stands alone
-  channel_sized : (e : ExprPair) (ms : List Mention) → HasCalls P (within context e) ms → ((name : List ℕ) → name_of_expr e ≡ Some name → AllUsed (called P) ms) → HasCalls P (channel_seen context e).judgement ms
-  channel_sized e ms c names h k = by_name (name_of_expr e) refl h k
+  -- the channel is a member's name: what stands alone is none
+  channel_sized : (e : ExprPair) (ms : List Mention) → ((name : List ℕ) → name_of_expr e ≡ Some name → is_there (channel_end_at context name) ≡ true → AllUsed (named P U) ms) → is_there (channel_seen context e).channel_end ≡ true → AllUsed (named P U) ms
+  channel_sized e ms names h = by_name (name_of_expr e) refl h
     where
-      by_name : (o : Option (List ℕ)) → name_of_expr e ≡ o → HasCalls P (channel_named context e o).judgement ms
-      by_name None q h k = unmarked_sized P ms (span_of e) (within context e) c h k
-      by_name (Some name) q h k = names name q
+      by_name : (o : Option (List ℕ)) → name_of_expr e ≡ o → is_there (channel_named context e o).channel_end ≡ true → AllUsed (named P U) ms
+      by_name None q h = nothing_there h
+      by_name (Some name) q h = names name q h
 
   -- another number of arguments
   wrong_effect_sized : {X : Type 0} (span : Span) (gs : List ParametricArgument) (es : List ExprPair) → is_there (wrong_effect span context gs es).size ≡ true → X
@@ -238,60 +238,69 @@ module _ (P : List ℕ → Bool) (bound : List (List ℕ)) (context : TypeEnv) w
   wrong_effect_sized span gs (t ∷ []) h = wrong_sized span gs (held_typing context t ∷ []) [] h
   wrong_effect_sized span gs (t ∷ c ∷ es) h = wrong_sized span gs (held_typing context t ∷ (channel_seen context c).judgement ∷ all_alone context es) [] h
 
-  effect_sized : (span : Span) (direction : Direction) (t c : ExprPair) (es : List ExprPair) (more : List Fault) (given : Option DslxType) (mss : List Mentions) → EachSized (t ∷ c ∷ es) mss → EachNamed (t ∷ c ∷ es) mss
-      → is_there (effect_with span context direction (token_typing context t) (channel_seen context c) (all_alone context es) more given).size ≡ true
-      → AllNamed P (effect_with span context direction (token_typing context t) (channel_seen context c) (all_alone context es) more given).reached → AllUsed (called P) (all_mentions mss bound)
-  effect_sized span direction t c es more given [] s names h k = tt
-  effect_sized span direction t c es more given (mt ∷ []) s names h k =
-      let channel = channel_seen context c in
-      let all = plus_size (token_typing context t).size (plus_size channel.judgement.size (size_of_all (all_alone context es))) in
-      let own = (effect_with span context direction (token_typing context t) channel (all_alone context es) more given).ty in
-      let sizes = three_sizes (token_typing context t).size channel.judgement.size (size_of_all (all_alone context es)) (rest_sized own all h) in
-      let q = three_named P (token_typing context t).reached channel.judgement.reached (reached_of_all (all_alone context es)) k in
-      join (called P) (mt bound) [] (s.0 sizes.0 q.0) tt
-  effect_sized span direction t c es more given (mt ∷ mc ∷ mss) s names h k =
-      let channel = channel_seen context c in
-      let all = plus_size (token_typing context t).size (plus_size channel.judgement.size (size_of_all (all_alone context es))) in
-      let own = (effect_with span context direction (token_typing context t) channel (all_alone context es) more given).ty in
-      let sizes = three_sizes (token_typing context t).size channel.judgement.size (size_of_all (all_alone context es)) (rest_sized own all h) in
-      let q = three_named P (token_typing context t).reached channel.judgement.reached (reached_of_all (all_alone context es)) k in
-      join (called P) (mt bound) (mc bound ++ all_mentions mss bound) (s.0 sizes.0 q.0)
-      (join (called P) (mc bound) (all_mentions mss bound) (channel_sized c (mc bound) s.1.0 names.1.0 sizes.1 q.1) (alone_sized es mss s.1.1 sizes.2 q.2))
+  -- its words have a type only where it is one
+  end_there : (c : ExprPair) → is_there (word_of (channel_seen context c)) ≡ true → is_there (channel_seen context c).channel_end ≡ true
+  end_there c h = first_there (channel_seen context c).channel_end (λ (o : ChannelEnd). o.word) h
 
-  receiving_sized : (span : Span) (es : List ExprPair) (mss : List Mentions) → EachSized es mss → EachNamed es mss → is_there (receiving span context es).size ≡ true → AllNamed P (receiving span context es).reached → AllUsed (called P) (all_mentions mss bound)
+  effect_sized : (span : Span) (direction : Direction) (t c : ExprPair) (es : List ExprPair) (more : List Fault) (given : Option DslxType) (mss : List Mentions) → EachSized (t ∷ c ∷ es) mss → EachNamed (t ∷ c ∷ es) mss
+      → (is_there given ≡ true → is_there (channel_seen context c).channel_end ≡ true)
+      → is_there (effect_with span context direction (token_typing context t) (channel_seen context c) (all_alone context es) more given).size ≡ true
+      → AllNamed P (effect_with span context direction (token_typing context t) (channel_seen context c) (all_alone context es) more given).reached → AllUsed (named P U) (all_mentions mss bound)
+  effect_sized span direction t c es more given [] s names ends h k = tt
+  effect_sized span direction t c es more given (mt ∷ []) s names ends h k =
+      let channel = channel_seen context c in
+      let all = plus_size (token_typing context t).size (plus_size channel.judgement.size (size_of_all (all_alone context es))) in
+      let own = (effect_with span context direction (token_typing context t) channel (all_alone context es) more given).ty in
+      let sizes = three_sizes (token_typing context t).size channel.judgement.size (size_of_all (all_alone context es)) (rest_sized own all h) in
+      let q = three_named P (token_typing context t).reached channel.judgement.reached (reached_of_all (all_alone context es)) k in
+      join (named P U) (mt bound) [] (s.0 sizes.0 q.0) tt
+  effect_sized span direction t c es more given (mt ∷ mc ∷ mss) s names ends h k =
+      let channel = channel_seen context c in
+      let all = plus_size (token_typing context t).size (plus_size channel.judgement.size (size_of_all (all_alone context es))) in
+      let own = (effect_with span context direction (token_typing context t) channel (all_alone context es) more given).ty in
+      let sizes = three_sizes (token_typing context t).size channel.judgement.size (size_of_all (all_alone context es)) (rest_sized own all h) in
+      let q = three_named P (token_typing context t).reached channel.judgement.reached (reached_of_all (all_alone context es)) k in
+      let others = all_alone context es in
+      let faults = ((((token_typing context t).faults ++ channel.judgement.faults) ++ faults_of_all others) ++ more) ++ site_faults span context direction channel in
+      let wanted = and_then (token_typing context t).ty (λ u. when_all (types_of others) given) in
+      let typed = second_there (all_some (types_of others)) given (second_there (token_typing context t).ty (when_all (types_of others) given) (sized_inside faults wanted (one_and all) h).1) in
+      join (named P U) (mt bound) (mc bound ++ all_mentions mss bound) (s.0 sizes.0 q.0)
+      (join (named P U) (mc bound) (all_mentions mss bound) (channel_sized c (mc bound) names.1.0 (ends typed)) (alone_sized es mss s.1.1 sizes.2 q.2))
+
+  receiving_sized : (span : Span) (es : List ExprPair) (mss : List Mentions) → EachSized es mss → EachNamed es mss → is_there (receiving span context es).size ≡ true → AllNamed P (receiving span context es).reached → AllUsed (named P U) (all_mentions mss bound)
   receiving_sized span [] mss s names h k = s
   receiving_sized span (t ∷ []) mss s names h k = wrong_effect_sized span [] (t ∷ []) h
-  receiving_sized span (t ∷ c ∷ []) mss s names h k = effect_sized span In t c [] [] (and_then (word_of (channel_seen context c)) (λ w. Some (received w))) mss s names h k
+  receiving_sized span (t ∷ c ∷ []) mss s names h k = effect_sized span In t c [] [] (and_then (word_of (channel_seen context c)) (λ w. Some (received w))) mss s names (λ g. end_there c (first_there (word_of (channel_seen context c)) (λ w. Some (received w)) g)) h k
   receiving_sized span (t ∷ c ∷ e ∷ es) mss s names h k = wrong_effect_sized span [] (t ∷ c ∷ e ∷ es) h
 
-  sending_sized : (span : Span) (es : List ExprPair) (mss : List Mentions) → EachSized es mss → EachNamed es mss → is_there (sending span context es).size ≡ true → AllNamed P (sending span context es).reached → AllUsed (called P) (all_mentions mss bound)
+  sending_sized : (span : Span) (es : List ExprPair) (mss : List Mentions) → EachSized es mss → EachNamed es mss → is_there (sending span context es).size ≡ true → AllNamed P (sending span context es).reached → AllUsed (named P U) (all_mentions mss bound)
   sending_sized span [] mss s names h k = s
   sending_sized span (t ∷ []) mss s names h k = wrong_effect_sized span [] (t ∷ []) h
   sending_sized span (t ∷ c ∷ []) mss s names h k = wrong_effect_sized span [] (t ∷ c ∷ []) h
-  sending_sized span (t ∷ c ∷ e ∷ []) mss s names h k = effect_sized span Out t c (e ∷ []) (wanted_faults (span_of e) (word_of (channel_seen context c)) (alone context e).ty) (and_then (word_of (channel_seen context c)) (λ w. Some ty.Token)) mss s names h k
+  sending_sized span (t ∷ c ∷ e ∷ []) mss s names h k = effect_sized span Out t c (e ∷ []) (wanted_faults (span_of e) (word_of (channel_seen context c)) (alone context e).ty) (and_then (word_of (channel_seen context c)) (λ w. Some ty.Token)) mss s names (λ g. end_there c (first_there (word_of (channel_seen context c)) (λ w. Some ty.Token) g)) h k
   sending_sized span (t ∷ c ∷ e ∷ a ∷ es) mss s names h k = wrong_effect_sized span [] (t ∷ c ∷ e ∷ a ∷ es) h
 
-  receiving_if_sized : (span : Span) (es : List ExprPair) (mss : List Mentions) → EachSized es mss → EachNamed es mss → is_there (receiving_if span context es).size ≡ true → AllNamed P (receiving_if span context es).reached → AllUsed (called P) (all_mentions mss bound)
+  receiving_if_sized : (span : Span) (es : List ExprPair) (mss : List Mentions) → EachSized es mss → EachNamed es mss → is_there (receiving_if span context es).size ≡ true → AllNamed P (receiving_if span context es).reached → AllUsed (named P U) (all_mentions mss bound)
   receiving_if_sized span [] mss s names h k = s
   receiving_if_sized span (t ∷ []) mss s names h k = wrong_effect_sized span [] (t ∷ []) h
   receiving_if_sized span (t ∷ c ∷ []) mss s names h k = wrong_effect_sized span [] (t ∷ c ∷ []) h
   receiving_if_sized span (t ∷ c ∷ e ∷ []) mss s names h k = wrong_effect_sized span [] (t ∷ c ∷ e ∷ []) h
-  receiving_if_sized span (t ∷ c ∷ e ∷ a ∷ []) mss s names h k = effect_sized span In t c (e ∷ a ∷ []) (unless_type is_bool 15 (span_of e) (alone context e).ty ++ wanted_faults (span_of a) (word_of (channel_seen context c)) (alone context a).ty) (and_then (word_of (channel_seen context c)) (λ w. Some (received w))) mss s names h k
+  receiving_if_sized span (t ∷ c ∷ e ∷ a ∷ []) mss s names h k = effect_sized span In t c (e ∷ a ∷ []) (unless_type is_bool 15 (span_of e) (alone context e).ty ++ wanted_faults (span_of a) (word_of (channel_seen context c)) (alone context a).ty) (and_then (word_of (channel_seen context c)) (λ w. Some (received w))) mss s names (λ g. end_there c (first_there (word_of (channel_seen context c)) (λ w. Some (received w)) g)) h k
   receiving_if_sized span (t ∷ c ∷ e ∷ a ∷ b ∷ es) mss s names h k = wrong_effect_sized span [] (t ∷ c ∷ e ∷ a ∷ b ∷ es) h
 
-  sending_if_sized : (span : Span) (es : List ExprPair) (mss : List Mentions) → EachSized es mss → EachNamed es mss → is_there (sending_if span context es).size ≡ true → AllNamed P (sending_if span context es).reached → AllUsed (called P) (all_mentions mss bound)
+  sending_if_sized : (span : Span) (es : List ExprPair) (mss : List Mentions) → EachSized es mss → EachNamed es mss → is_there (sending_if span context es).size ≡ true → AllNamed P (sending_if span context es).reached → AllUsed (named P U) (all_mentions mss bound)
   sending_if_sized span [] mss s names h k = s
   sending_if_sized span (t ∷ []) mss s names h k = wrong_effect_sized span [] (t ∷ []) h
   sending_if_sized span (t ∷ c ∷ []) mss s names h k = wrong_effect_sized span [] (t ∷ c ∷ []) h
   sending_if_sized span (t ∷ c ∷ e ∷ []) mss s names h k = wrong_effect_sized span [] (t ∷ c ∷ e ∷ []) h
-  sending_if_sized span (t ∷ c ∷ e ∷ a ∷ []) mss s names h k = effect_sized span Out t c (e ∷ a ∷ []) (unless_type is_bool 15 (span_of e) (alone context e).ty ++ wanted_faults (span_of a) (word_of (channel_seen context c)) (alone context a).ty) (and_then (word_of (channel_seen context c)) (λ w. Some ty.Token)) mss s names h k
+  sending_if_sized span (t ∷ c ∷ e ∷ a ∷ []) mss s names h k = effect_sized span Out t c (e ∷ a ∷ []) (unless_type is_bool 15 (span_of e) (alone context e).ty ++ wanted_faults (span_of a) (word_of (channel_seen context c)) (alone context a).ty) (and_then (word_of (channel_seen context c)) (λ w. Some ty.Token)) mss s names (λ g. end_there c (first_there (word_of (channel_seen context c)) (λ w. Some ty.Token) g)) h k
   sending_if_sized span (t ∷ c ∷ e ∷ a ∷ b ∷ es) mss s names h k = wrong_effect_sized span [] (t ∷ c ∷ e ∷ a ∷ b ∷ es) h
 
   -- ---- any call
 
   -- what a call mentions, its number arguments and its operands
   abbrev pub CallUsed : CallKind → Ident → List Mentions → List Mentions → Type 0
-  CallUsed kind name given mss = AllUsed (called P) (((if is_text_function kind then mention AsFunction name.name else []) ++ all_mentions given bound) ++ all_mentions mss bound)
+  CallUsed kind name given mss = AllUsed (named P U) (((if is_text_function kind then mention AsFunction name.name else []) ++ all_mentions given bound) ++ all_mentions mss bound)
 
   -- an effect, at the top or not, has no parametric arguments
   top_sized : {X : Type 0} (b : Bool) (span : Span) (j : Judgement) → (is_there j.size ≡ true → AllNamed P j.reached → X) → is_there (only_on_top b span j).size ≡ true → AllNamed P (only_on_top b span j).reached → X
@@ -299,17 +308,17 @@ module _ (P : List ℕ → Bool) (bound : List (List ℕ)) (context : TypeEnv) w
   top_sized false span j c h k = c h k
 
   effect_passes : (on_top : Bool) (span : Span) (as' : List ArgPair) (given : List Mentions) (es : List ExprPair) (mss : List Mentions) (j : Judgement) → EachValued as' given
-      → (is_there j.size ≡ true → AllNamed P j.reached → AllUsed (called P) (all_mentions mss bound)) → is_there (only_on_top on_top span (unnumbered_effect span context as' es j)).size ≡ true
-      → AllNamed P (only_on_top on_top span (unnumbered_effect span context as' es j)).reached → AllUsed (called P) (all_mentions given bound ++ all_mentions mss bound)
-  effect_passes on_top span [] given es mss j g c h k = join (called P) (all_mentions given bound) (all_mentions mss bound) g (top_sized on_top span j c h k)
+      → (is_there j.size ≡ true → AllNamed P j.reached → AllUsed (named P U) (all_mentions mss bound)) → is_there (only_on_top on_top span (unnumbered_effect span context as' es j)).size ≡ true
+      → AllNamed P (only_on_top on_top span (unnumbered_effect span context as' es j)).reached → AllUsed (named P U) (all_mentions given bound ++ all_mentions mss bound)
+  effect_passes on_top span [] given es mss j g c h k = join (named P U) (all_mentions given bound) (all_mentions mss bound) g (top_sized on_top span j c h k)
   effect_passes on_top span (a ∷ as') given es mss j g c h k =
       let gs = given_parametric_args context (a ∷ as') in
       top_sized on_top span (wrong_effect span context gs es) (λ x y. wrong_effect_sized span gs es x) h k
 
   other_passes : (kind : CallKind) (span : Span) (as' : List ArgPair) (given : List Mentions) (es : List ExprPair) (mss : List Mentions) → EachValued as' given → EachSized es mss
       → is_there (without_parametric_args span context as' es (builtin_typing kind span es context)).size ≡ true → AllNamed P (without_parametric_args span context as' es (builtin_typing kind span es context)).reached
-      → AllUsed (called P) (all_mentions given bound ++ all_mentions mss bound)
-  other_passes kind span [] given es mss g s h k = join (called P) (all_mentions given bound) (all_mentions mss bound) g (builtin_sized kind span es mss s h k)
+      → AllUsed (named P U) (all_mentions given bound ++ all_mentions mss bound)
+  other_passes kind span [] given es mss g s h k = join (named P U) (all_mentions given bound) (all_mentions mss bound) g (builtin_sized kind span es mss s h k)
   other_passes kind span (a ∷ as') given es mss g s h k = wrong_sized span (given_parametric_args context (a ∷ as')) (all_alone context es) [] h
 
   pub call_sized : (kind : CallKind) (span : Span) (name : Ident) (as' : List ArgPair) (given : List Mentions) (es : List ExprPair) (mss : List Mentions) → EachValued as' given → EachSized es mss → EachNamed es mss → (on_top : Bool)
@@ -319,7 +328,7 @@ module _ (P : List ℕ → Bool) (bound : List (List ℕ)) (context : TypeEnv) w
       let js = all_alone context es in
       let r = function_sized span name gs es js (as_function (item_named name.name context.known.whole.items)) refl h k in
       let q = named_parts P (reached_of_all (given_judgements gs)) (reached_of_all js) r.parts in
-      join_three (called P) (mention AsFunction name.name) (all_mentions given bound) (all_mentions mss bound) (r.callee, tt) (given_valued as' given g r.values q.0) (alone_sized es mss s r.sizes q.1)
+      join_three (named P U) (mention AsFunction name.name) (all_mentions given bound) (all_mentions mss bound) (r.callee, tt) (given_valued as' given g r.values q.0) (alone_sized es mss s r.sizes q.1)
   call_sized Receives span name as' given es mss g s names on_top h k = effect_passes on_top span as' given es mss (receiving span context es) g (receiving_sized span es mss s names) h k
   call_sized ReceivesIf span name as' given es mss g s names on_top h k = effect_passes on_top span as' given es mss (receiving_if span context es) g (receiving_if_sized span es mss s names) h k
   call_sized Sends span name as' given es mss g s names on_top h k = effect_passes on_top span as' given es mss (sending span context es) g (sending_sized span es mss s names) h k

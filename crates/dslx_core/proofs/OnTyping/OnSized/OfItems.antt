@@ -27,9 +27,8 @@ use Rattle.dslx_meaning.specs.declared.ty.DslxType as ty
 use Rattle.dslx_meaning.specs.declared.value.DslxValue.{DslxValue}
 use Rattle.dslx_meaning.specs.declared.value.UntypedLiteral.{UntypedLiteral}
 use Rattle.dslx_meaning.specs.Lists.{and_then}
-use Rattle.dslx_meaning.specs.Operators.{number_value}
 use Rattle.dslx_meaning.specs.Types.{bits_in}
-use Rattle.dslx_meaning.specs.Rules.AggregateRules.{range_faults, wanted_faults}
+use Rattle.dslx_meaning.specs.Rules.AggregateRules.{range_faults, wanted_faults, untyped_value}
 use Rattle.dslx_meaning.specs.Rules.OperatorRules.{is_bits, unless_type}
 use Rattle.dslx_meaning.specs.Rules.ModuleRules.{item_found}
 use Rattle.dslx_meaning.specs.Rules.Typings.{typing_sorts}
@@ -46,7 +45,7 @@ use Rattle.dslx_core.specs.Typing.TypingRelations.Whole.{ArgumentsThere, EndsThe
 use Rattle.dslx_core.proofs.OnTyping.OnCycles.Parts.{front, join, join_three, not_here}
 use Rattle.dslx_core.proofs.OnTyping.OnSized.Joined.{argument_sized, block_of_text_sized, constant_valued, count_valued, expression_sized, written_type_sized}
 use Rattle.dslx_core.proofs.OnTyping.OnSized.OfCalls.{AllValued, callee_passes, values_given}
-use Rattle.dslx_core.proofs.OnTyping.OnSized.Parts.{both_tests, each_there, first_there, named_parts, nothing_there, second_there, typed_inside, unmarked_sized}
+use Rattle.dslx_core.proofs.OnTyping.OnSized.Parts.{both_tests, each_there, first_there, named_parts, none, nothing_there, nothing_unknown, second_there, typed_inside, unmarked_sized}
 use Rattle.dslx_core.proofs.OnTyping.OnCycles.Bare.{bare_mentions_nothing}
 use Rattle.dslx_core.proofs.OnTyping.OnSound.Trees.{own_expr}
 use Rattle.dslx_core.proofs.OnTyping.OnTyped.TypingRelations.{rule_holds, unbroken_parts}
@@ -56,7 +55,7 @@ use Rattle.dslx_core.proofs.OnTyping.OnTyping.OfItems.{item_so_named, proc_is}
 
 abbrev in_base : Option DslxType → UntypedLiteral → Option DslxValue
 in_base None number = None
-in_base (Some t) number = number_value t number
+in_base (Some t) number = untyped_value t number
 
 abbrev of_base : Option DslxType → ConstantSeen → List Fault → ConstantFound
 of_base base c wrong = record {
@@ -78,7 +77,7 @@ module _ (P : List ℕ → Bool) where
       → AllNamed P (default_found context t o).reached → AllUsed (called P) (expr_if o bound)
   default_sized context t bound None h k = tt
   default_sized context t bound (Some e) h k =
-      constant_valued P context (expr_pair e) (mentioned e bound) (unmarked_sized P (mentioned e bound) (span_of (expr_pair e)) ((expr_pair e).1 false context) (expression_sized P e bound false context)) (h e refl) k
+      constant_valued P none context (expr_pair e) (mentioned e bound) (unmarked_sized P none (mentioned e bound) (span_of (expr_pair e)) ((expr_pair e).1 false context) (expression_sized P none e bound false context (nothing_unknown bound context))) (h e refl) k
 
   parametrics_sized : (known : GlobalEnv) (owner : List ℕ) (before : List (List ℕ)) (so_far : List Given) (ps : List Parametric) (values : List DslxValue) (bound : List (List ℕ)) → ParametricsThere known owner so_far ps values
       → AllNamed P (parametrics_found known owner before so_far ps values).reached → AllUsed (called P) (parametrics_mentions ps bound)
@@ -90,7 +89,7 @@ module _ (P : List ℕ → Bool) where
       let rest = parametrics_found known owner (p.name.name ∷ before) (bound_with so_far p (number_at values)) ps (parametric_args_behind values) in
       let a = named_parts P t.reached (default.reached ++ rest.reached) k in
       let b = named_parts P default.reached rest.reached a.1 in
-      join_three (called P) (mentioned_in_type p.ty bound) (expr_if p.default bound) (parametrics_mentions ps (p.name.name ∷ bound)) ((written_type_sized P p.ty).typed bound context h.0.0 a.0)
+      join_three (called P) (mentioned_in_type p.ty bound) (expr_if p.default bound) (parametrics_mentions ps (p.name.name ∷ bound)) ((written_type_sized P none p.ty).typed bound context (nothing_unknown bound context) h.0.0 a.0)
       (default_sized context t.ty bound p.default h.0.1 b.0)
       (parametrics_sized known owner (p.name.name ∷ before) (bound_with so_far p (number_at values)) ps (parametric_args_behind values) (p.name.name ∷ bound) h.1 b.1)
 
@@ -100,11 +99,11 @@ module _ (P : List ℕ → Bool) where
       let t = typing_of_inner context f.ty in
       let rest = arguments_found context (f.name.name ∷ before) fs in
       let a = named_parts P t.reached rest.reached k in
-      join (called P) (mentioned_in_type f.ty bound) (fields_mentions fs bound) ((written_type_sized P f.ty).typed bound context h.0 a.0) (arguments_sized context (f.name.name ∷ before) fs bound h.1 a.1)
+      join (called P) (mentioned_in_type f.ty bound) (fields_mentions fs bound) ((written_type_sized P none f.ty).typed bound context (nothing_unknown bound context) h.0 a.0) (arguments_sized context (f.name.name ∷ before) fs bound h.1 a.1)
 
   result_sized : (context : TypeEnv) (o : Option TypeExpr) (bound : List (List ℕ)) → is_there (result_typing context o).ty ≡ true → AllNamed P (result_typing context o).reached → AllUsed (called P) (type_if o bound)
   result_sized context None bound h k = tt
-  result_sized context (Some t) bound h k = (written_type_sized P t).typed bound context h k
+  result_sized context (Some t) bound h k = (written_type_sized P none t).typed bound context (nothing_unknown bound context) h k
 
   pub function_calls : (known : GlobalEnv) (f : Function) (parametric_args : List DslxValue) → IsFunctionThere known f parametric_args → AllNamed P (function_seen known f parametric_args).found.reached
       → AllUsed (called P) (definition_mentions (d.Function f))
@@ -123,7 +122,7 @@ module _ (P : List ℕ → Bool) where
       join (called P) ((parametrics_mentions f.parametrics [] ++ fields_mentions f.arguments names) ++ type_if f.result names) (mentioned_in_block f.body inner)
       (join_three (called P) (parametrics_mentions f.parametrics []) (fields_mentions f.arguments names) (type_if f.result names) (parametrics_sized known f.name.name [] [] f.parametrics parametric_args [] h.parametrics a.0)
       (arguments_sized context [] f.arguments names h.arguments b.0) (result_sized context f.result names h.result c.0))
-      (block_of_text_sized P f.body inner false behind h.body c.1)
+      (block_of_text_sized P none f.body inner false behind (nothing_unknown inner behind) h.body c.1)
 
   -- ---- procs
 
@@ -131,14 +130,14 @@ module _ (P : List ℕ → Bool) where
   ends_sized context before [] bound h k = tt
   ends_sized context before (e ∷ es) bound h k =
       let a = named_parts P (typing_of_inner context e.word).reached (ends_found context (e.name.name ∷ before) es).reached k in
-      join (called P) (mentioned_in_type e.word bound) (ends_mentions es bound) ((written_type_sized P e.word).typed bound context h.0 a.0) (ends_sized context (e.name.name ∷ before) es bound h.1 a.1)
+      join (called P) (mentioned_in_type e.word bound) (ends_mentions es bound) ((written_type_sized P none e.word).typed bound context (nothing_unknown bound context) h.0 a.0) (ends_sized context (e.name.name ∷ before) es bound h.1 a.1)
 
   depth_sized : (context : TypeEnv) (o : Option Arg) (bound : List (List ℕ)) → ((a : Arg) → o ≡ Some a → is_there (count_of context (arg_pair a).1).count ≡ true) → AllNamed P (depth_found context o).reached → AllUsed (called P) (arg_if o bound)
   depth_sized context None bound h k = tt
   depth_sized context (Some a) bound h k =
       let e = (arg_pair a).1 in
-      let c = argument_sized P a in
-      count_valued P context e (mentioned_in_arg a bound) (unmarked_sized P (mentioned_in_arg a bound) (span_of e) (e.1 false context) (c.0 bound false context)) (λ number q. c.1 number q bound) (h a refl) k
+      let c = argument_sized P none a in
+      count_valued P none context e (mentioned_in_arg a bound) (unmarked_sized P none (mentioned_in_arg a bound) (span_of e) (e.1 false context) (c.0 bound false context (nothing_unknown bound context))) (λ number q. c.1 number q bound) (h a refl) k
 
   given_sized : (context : TypeEnv) (as' : List Arg) (bound : List (List ℕ)) → AllValued (given_parametric_args context (map arg_pair as')) → AllNamed P (reached_of_all (given_judgements (given_parametric_args context (map arg_pair as'))))
       → AllUsed (called P) (flat_map (λ (a : Arg). mentioned_in_arg a bound) as')
@@ -147,7 +146,7 @@ module _ (P : List ℕ → Bool) where
       let e = (arg_pair a).1 in
       let n = named_parts P (constant_of context e).judgement.reached (reached_of_all (given_judgements (given_parametric_args context (map arg_pair as')))) k in
       join (called P) (mentioned_in_arg a bound) (flat_map (λ (x : Arg). mentioned_in_arg x bound) as')
-      (constant_valued P context e (mentioned_in_arg a bound) (unmarked_sized P (mentioned_in_arg a bound) (span_of e) (e.1 false context) ((argument_sized P a).0 bound false context)) h.0 n.0) (given_sized context as' bound h.1 n.1)
+      (constant_valued P none context e (mentioned_in_arg a bound) (unmarked_sized P none (mentioned_in_arg a bound) (span_of e) (e.1 false context) ((argument_sized P none a).0 bound false context (nothing_unknown bound context))) h.0 n.0) (given_sized context as' bound h.1 n.1)
 
   -- what a spawn passes
   record SpawnPasses (s : Spawn) (gs : List ParametricArgument) : Type 0 where
@@ -206,7 +205,7 @@ module _ (P : List ℕ → Bool) where
       let n = named_parts P (channel_found context made c).reached (config_statements_found context (made_with context made c) ms).reached k in
       let a = named_parts P (typing_of_inner inner c.word).reached (depth_found inner c.depth).reached n.0 in
       join (called P) (mentioned_in_type c.word bound ++ arg_if c.depth bound) rest
-      (join (called P) (mentioned_in_type c.word bound) (arg_if c.depth bound) ((written_type_sized P c.word).typed bound inner h.0.word a.0) (depth_sized inner c.depth bound h.0.depth a.1))
+      (join (called P) (mentioned_in_type c.word bound) (arg_if c.depth bound) ((written_type_sized P none c.word).typed bound inner (nothing_unknown bound inner) h.0.word a.0) (depth_sized inner c.depth bound h.0.depth a.1))
       (statements_sized context (made_with context made c) ms bound h.1 n.1)
   statements_sized context made (config_statement.Spawn s ∷ ms) bound h k =
       let gs = given_parametric_args (behind_ends context made) (map arg_pair s.arguments) in
@@ -249,26 +248,26 @@ module _ (P : List ℕ → Bool) where
       (join (called P) ((one ++ two) ++ three) four
       (join_three (called P) one two three (parametrics_sized known p.name.name [] [] p.parametrics parametric_args [] h.parametrics a.0) (ends_sized context [] p.members names h.members b.0) (ends_sized context [] p.config.ends names h.ends e.0))
       (statements_sized context start p.config.config_statements names h.statements f.0))
-      (block_of_text_sized P p.init names false (behind_members known p parametric_args) h.init i.0))
-      ((written_type_sized P p.next.ty).typed names context h.state g.0))
-      (block_of_text_sized P p.next.body (p.next.state.name ∷ names) true (behind_state known p parametric_args) h.next j.0)
+      (block_of_text_sized P none p.init names false (behind_members known p parametric_args) (nothing_unknown names (behind_members known p parametric_args)) h.init i.0))
+      ((written_type_sized P none p.next.ty).typed names context (nothing_unknown names context) h.state g.0))
+      (block_of_text_sized P none p.next.body (p.next.state.name ∷ names) true (behind_state known p parametric_args) (nothing_unknown (p.next.state.name ∷ names) (behind_state known p parametric_args)) h.next j.0)
 
   -- ---- other items
 
   annotation_sized : (context : TypeEnv) (o : Option TypeExpr) → is_annotated o (annotation_typing context o).ty ≡ true → AllNamed P (annotation_typing context o).reached → AllUsed (called P) (type_if o [])
   annotation_sized context None h k = tt
-  annotation_sized context (Some t) h k = (written_type_sized P t).typed [] context h k
+  annotation_sized context (Some t) h k = (written_type_sized P none t).typed [] context (nothing_unknown [] context) h k
 
   value_sized : (context : TypeEnv) (e : Expr) → is_there (constant_of context (expr_pair e)).value ≡ true → AllNamed P (constant_of context (expr_pair e)).judgement.reached → AllUsed (called P) (mentioned e [])
   value_sized context e h k =
-      constant_valued P context (expr_pair e) (mentioned e []) (unmarked_sized P (mentioned e []) (span_of (expr_pair e)) ((expr_pair e).1 false context) (expression_sized P e [] false context)) h k
+      constant_valued P none context (expr_pair e) (mentioned e []) (unmarked_sized P none (mentioned e []) (span_of (expr_pair e)) ((expr_pair e).1 false context) (expression_sized P none e [] false context (nothing_unknown [] context))) h k
 
   fields_sized : (context : TypeEnv) (before : List (List ℕ)) (fs : List Field) → is_there (fields_types context fs) ≡ true → AllNamed P (fields_found context before fs).reached → AllUsed (called P) (fields_mentions fs [])
   fields_sized context before [] h k = tt
   fields_sized context before (f ∷ fs) h k =
       let a = named_parts P (typing_of_inner context f.ty).reached (fields_found context (f.name.name ∷ before) fs).reached k in
       let r = each_there (typing_of_inner context f.ty).ty (map (λ (f : Field). (typing_of_inner context f.ty).ty) fs) h in
-      join (called P) (mentioned_in_type f.ty []) (fields_mentions fs []) ((written_type_sized P f.ty).typed [] context r.0 a.0) (fields_sized context (f.name.name ∷ before) fs r.1 a.1)
+      join (called P) (mentioned_in_type f.ty []) (fields_mentions fs []) ((written_type_sized P none f.ty).typed [] context (nothing_unknown [] context) r.0 a.0) (fields_sized context (f.name.name ∷ before) fs r.1 a.1)
 
   member_sized : (context : TypeEnv) (base : Option DslxType) (x : Member) → is_there (member_constant context base x).value ≡ true → AllNamed P (member_constant context base x).found.reached → AllUsed (called P) (mentioned x.value [])
   member_sized context base x h k = by_untyped (untyped_of (expr_pair x.value)) refl h k
@@ -304,7 +303,7 @@ module _ (P : List ℕ → Bool) where
   item_calls known (d.Alias a) h k =
       let context = item_type_env known a.name.name [] in
       let j = typing_of_type context a.ty in
-      (written_type_sized P a.ty).typed [] context (typed_inside j.faults j.ty h).1 k
+      (written_type_sized P none a.ty).typed [] context (nothing_unknown [] context) (typed_inside j.faults j.ty h).1 k
   item_calls known (d.Struct s) h k =
       let context = item_type_env known s.name.name [] in
       let faults = (fields_found context [] s.fields).faults ++ breaks_if (is_empty s.fields) 31 s.span in
@@ -319,5 +318,5 @@ module _ (P : List ℕ → Bool) where
       let faults = ((base.faults ++ members.faults) ++ one) ++ two in
       let a = named_parts P base.reached members.reached k in
       join (called P) (mentioned_in_type e.base []) (flat_map (λ (x : Member). mentioned x.value []) e.members)
-      ((written_type_sized P e.base).typed [] context (first_there base.ty (λ t. and_then (bits_in t) (λ kind. Some (ty.Enum e.name.name kind.signed kind.width))) (typed_inside faults (enum_of_base e.name.name base.ty) h.0).1) a.0)
+      ((written_type_sized P none e.base).typed [] context (nothing_unknown [] context) (first_there base.ty (λ t. and_then (bits_in t) (λ kind. Some (ty.Enum e.name.name kind.signed kind.width))) (typed_inside faults (enum_of_base e.name.name base.ty) h.0).1) a.0)
       (members_sized context (base_if_bits base.ty) [] e.members h.1 a.1)

@@ -27,7 +27,7 @@ use Rattle.dslx_core.specs.Typing.Typed.Declared.{Declarations}
 use Rattle.dslx_core.specs.Typing.Typed.Given.{GivesOf}
 use Rattle.dslx_core.specs.Typing.Typed.Numbers.{FitParametricArgs, GivenMean, values_behind}
 use Rattle.dslx_core.specs.Typing.Typed.WellTyped.{IsWellTypedEnv, types_at}
-use Rattle.dslx_core.proofs.Lemmas.Typing.Typed.{parametric_is, none_some, number_given, one_type, one_of_text, or_false, own_value, same_some}
+use Rattle.dslx_core.proofs.Lemmas.Typing.Typed.{parametric_is, none_some, number_given, one_type, one_of_text, or_false, own_value, same_some, untyped_there}
 use Rattle.dslx_core.specs.Typing.Sound.Sound.{EachExprGives}
 use Rattle.dslx_core.proofs.OnTyping.OnSound.OfConstants.{constant_has}
 use Rattle.dslx_core.proofs.OnTyping.OnSound.WellTypedParts.{all_in, none_in, passed}
@@ -74,16 +74,18 @@ resolved_given known owner before p k span v own (Some t) q well_typed wanted =
 -- ---- parameters that aren't given
 
 abbrev or_wrong : Option DslxValue → Resolved
-or_wrong None = Wrong
-or_wrong (Some v) = Number v
+or_wrong o = if is_there o then resolved_value o else Wrong
 
 number_in_type : (known : GlobalEnv) (owner : List ℕ) (before : List (Option DslxValue)) (p : Parametric) → IsParametricKnown known owner before p → (n : ℕ) (o : Option DslxType) → parametric_type known owner (known_before before) ≡ o
     → IsWellTypedPart known (known.parameter_in owner before) → is_wrong_parametric (in_type o n) ≡ false → Found known owner before (in_type o n)
 number_in_type known owner before p k n None q well_typed right = untyped known owner before p k q well_typed
-number_in_type known owner before p k n (Some t) q well_typed right = by_value (number_value t number) refl right
+number_in_type known owner before p k n (Some t) q well_typed right = subst (Found known owner before) (sym same) (by_value (number_value t number) refl (ap is_wrong_parametric (sym same) ∙ right))
   where
     number : UntypedLiteral
     number = record { is_negative = false; value = n }
+
+    same : in_type (Some t) n ≡ or_wrong (number_value t number)
+    same = ap (λ o. if is_there (number_value t number) then resolved_value o else Wrong) (untyped_there t (k.narrow well_typed.faults t (parametric_is known owner before t q)) number)
 
     by_value : (o : Option DslxValue) → number_value t number ≡ o → is_wrong_parametric (or_wrong o) ≡ false → Found known owner before (or_wrong o)
     by_value None r e = absurd (true≢false e)

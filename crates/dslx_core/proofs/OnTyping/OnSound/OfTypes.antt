@@ -1,35 +1,46 @@
 -- Written types: they mean what is known of them, and where nothing is wrong with them they are known.
-use Rattle.std.proofs.Common.{◌≡◌, ◌++◌, ℕ, Bool, true, false, List, [], ◌∷◌, map, Option, Some, None, refl, ap, ◌∙◌}
+use Rattle.std.proofs.Common.{◌≡◌, ◌++◌, ℕ, Bool, true, false, List, [], ◌∷◌, map, Option, Some, None, refl, sym, ap, ◌∙◌}
 use Rattle.std.specs.List.{list_all}
+use Rattle.xb_span.specs.declared.fault.Fault.{Fault}
+use Rattle.xb_span.specs.declared.limit.What.TheVariants as what
 use Rattle.xb_span.specs.declared.span.Span.{Span}
 use Rattle.dslx_meaning.specs.Lists.{all_some, and_then, with_both}
 use Rattle.dslx_meaning.specs.Environment.{Env}
 use Rattle.dslx_meaning.specs.Items.{item_named}
 use Rattle.dslx_meaning.specs.Meaning.{ExprDen, TypeDen, size_of}
+use Rattle.dslx_meaning.specs.Types.{leaves_of, levels_of}
 use Rattle.dslx_meaning.specs.declared.ty.DslxType as ty
 use Rattle.dslx_meaning.specs.declared.ty.DslxType.{DslxType}
 use Rattle.dslx_meaning.specs.Rules.ConstantRules.{count_faults, count_of}
-use Rattle.dslx_meaning.specs.Rules.TypeEnvs.{ExprPair, TypeEnv, breaks, breaks_if, faults_of_all, reached_of_all, settled, types_of, size_if_typed}
+use Rattle.dslx_meaning.specs.Rules.TypeEnvs.{ExprPair, Instance, TypeEnv, breaks, breaks_if, faults_of_all, leaf_widths, passes, passes_widths, reached_of_all, settled, type_limits, types_of, size_if_typed, unless_broken}
 use Rattle.dslx_meaning.specs.Rules.Typings.{TypePair}
 use Rattle.dslx_meaning.specs.Rules.Mentions.{AsType, is_of_use}
 use Rattle.dslx_meaning.specs.Rules.TypeRules.{array_of, counted_type, inner_type, inner_types, named_bits, named_type, span_of_type, unit_faults}
 use Rattle.dslx_core.specs.Typing.Typed.Complete.{IsWellTypedPart}
-use Rattle.dslx_core.specs.Typing.Typed.Given.{EachTypeMeans}
+use Rattle.dslx_core.specs.Typing.Typed.Given.{EachTypeMeans, HasNarrowLeaves}
 use Rattle.dslx_core.specs.Typing.Typed.WellTyped.{IsWellTypedEnv, types_at}
-use Rattle.dslx_core.proofs.Lemmas.Typing.Typed.{all_are, array_means, bits_mean, name_means, tuple_means, wide_means}
+use Rattle.dslx_core.proofs.Lemmas.Typing.Typed.{all_are, array_means, bits_mean, name_means, none_some, tuple_means, wide_means}
 use Rattle.dslx_core.specs.Typing.Sound.Sound.{EachTypeHasDen, ExprGives, TypeHasDen}
-use Rattle.dslx_core.proofs.OnTyping.OnSound.WellTypedParts.{all_in, none_in, settled_well_typed, some_fault}
+use Rattle.dslx_core.proofs.OnTyping.OnSound.WellTypedParts.{all_in, none_in, none_in_three, settled_well_typed, some_fault}
 use Rattle.dslx_core.proofs.OnTyping.OnSound.OfConstants.{count_has, count_is}
 
 -- a written type that has a type counts nothing
 counts_nothing : (own : Option DslxType) (t : DslxType) → own ≡ Some t → size_if_typed own (Some 0) ≡ Some 0
 counts_nothing own t e = ap (λ o. size_if_typed o (Some 0)) e
 
+-- without faults no limit is passed
+settled_narrow : (span : Span) (own : Option DslxType) (named : List Fault) (found : List Instance) (size : Option ℕ) → (settled span own named found size).faults ≡ [] → (t : DslxType) → (settled span own named found size).ty ≡ Some t
+    → HasNarrowLeaves t
+settled_narrow span own named found size f t e =
+    let limits = (none_in named (type_limits span.to (unless_broken named own)) f).1 in
+    (span.to, (none_in_three (passes_widths span.to (leaf_widths t)) (passes what.Leaves 256 span.to (leaves_of t)) (passes what.Levels 64 span.to (levels_of t)) ((λ i. type_limits span.to (sym e i)) ∙ limits)).0)
+
 pub plain_has_den : (span : Span) (s : Bool) (w : ℕ) → TypeHasDen (λ context. named_bits span s w) (λ env. Some (ty.Bits s w))
 plain_has_den span s w = record {
   means = λ context env h. bits_mean (types_at context) span s w;
   known = λ context env h well_typed. (ty.Bits s w, (settled_well_typed context.known span (Some (ty.Bits s w)) (count_faults span (Some w)) [] (Some 0) well_typed).ty);
   sized = λ context t e. counts_nothing _ t e;
+  narrow = λ context. settled_narrow span (Some (ty.Bits s w)) (count_faults span (Some w)) [] (Some 0);
 }
 
 pub wide_has_den : (span : Span) (s : Bool) (e : ExprPair) (x : ExprDen) → ExprGives e x
@@ -42,6 +53,7 @@ wide_has_den span s e x g = record {
       let k = count_has context env e x g h (record { faults = q.faults; reached = q.reached }) in
       (ty.Bits s k.0, q.ty ∙ ap (λ o. and_then o (λ w. Some (ty.Bits s w))) k.1);
   sized = λ context t e. counts_nothing _ t e;
+  narrow = λ context. let n = count_of context e in settled_narrow span (and_then n.count (λ w. Some (ty.Bits s w))) n.judgement.faults n.judgement.reached (Some 0);
 }
 
 pub name_has_den : (span : Span) (name : List ℕ) → TypeHasDen (λ context. named_type span context name (is_of_use AsType (item_named name context.known.whole.items))) (λ env. env.items.type_named name)
@@ -51,11 +63,16 @@ name_has_den span name = record {
       ((λ i. (h.items i).type_named name) ∙ r.0, r.1);
   known = λ context env h well_typed. by_use context env h (is_of_use AsType (item_named name context.known.whole.items)) refl well_typed;
   sized = λ context t e. by_kind context t (is_of_use AsType (item_named name context.known.whole.items)) e;
+  narrow = λ context f t e. by_name context t (is_of_use AsType (item_named name context.known.whole.items)) f e;
 }
   where
     by_kind : (context : TypeEnv) (t : DslxType) (b : Bool) → (named_type span context name b).ty ≡ Some t → (named_type span context name b).size ≡ Some 0
     by_kind context t true e = counts_nothing _ t e
     by_kind context t false e = counts_nothing _ t e
+
+    by_name : (context : TypeEnv) (t : DslxType) (b : Bool) → (named_type span context name b).faults ≡ [] → (named_type span context name b).ty ≡ Some t → HasNarrowLeaves t
+    by_name context t true f e = settled_narrow span (context.known.items.type_named name) (breaks_if (context.known.is_cyclic context.owner name) 3 span) [] (Some 0) f t e
+    by_name context t false f e = none_some t e
 
     by_use : (context : TypeEnv) (env : Env) → IsWellTypedEnv context env → (b : Bool) → is_of_use AsType (item_named name context.known.whole.items) ≡ b → IsWellTypedPart context.known (named_type span context name b)
         → (t : DslxType) × ((named_type span context name b).ty ≡ Some t)
@@ -102,6 +119,7 @@ tuple_has_den span ps fs k = record {
       let ts = each_known context env h ps fs k q.faults q.reached in
       (ty.Tuple ts.0, q.ty ∙ ap (λ o. and_then o (λ ts. Some (ty.Tuple ts))) (ap all_some ts.1 ∙ all_are ts.0));
   sized = λ context t e. counts_nothing _ t e;
+  narrow = λ context. let js = inner_types context ps in settled_narrow span (and_then (all_some (types_of js)) (λ ts. Some (ty.Tuple ts))) (faults_of_all js) (reached_of_all js) (Some 0);
 }
 
 -- ---- arrays
@@ -121,4 +139,8 @@ array_has_den span p f e x k g = record {
       let m = count_has context env e x g h (record { faults = s.1; reached = r.1 }) in
       (ty.Array t.0 m.0, q.ty ∙ (λ i. with_both (t.1 i) (m.1 i) (λ t n. Some (ty.Array t n))));
   sized = λ context t e. counts_nothing _ t e;
+  narrow = λ context.
+      let element = inner_type context p in
+      let n = count_of context e in
+      settled_narrow span (with_both element.ty n.count (λ t n. Some (ty.Array t n))) (element.faults ++ n.judgement.faults) n.judgement.reached (Some 0);
 }

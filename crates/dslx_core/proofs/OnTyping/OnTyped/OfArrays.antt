@@ -4,8 +4,11 @@ use mathlib.Core.Bool.{true≢false}
 use Rattle.std.specs.Prelude.{nat_lt, nat_le, ◌^◌}
 use Rattle.std.specs.Option.{option_map}
 use Rattle.std.specs.List.{list_all}
+use Rattle.std.proofs.lemmas.Bool.{le-leb}
 use Rattle.std.proofs.lemmas.Bool.Decides.{Decides-eqb}
 use Rattle.xb_bits.specs.Word.{Word, word}
+use Rattle.xb_span.specs.declared.fault.Fault.TheVariants.{Passed}
+use Rattle.xb_span.specs.declared.limit.What.TheVariants as what
 use Rattle.xb_span.specs.declared.span.Span.{Span}
 use Rattle.dslx_meaning.specs.Lists.{all_some, and_then, where_true, last_of, repeated}
 use Rattle.dslx_meaning.specs.Types.{same_type, bits_in}
@@ -15,19 +18,22 @@ use Rattle.dslx_meaning.specs.Meaning.{ExprDen, element_den, array_at, filled}
 use Rattle.dslx_meaning.specs.declared.ty.BitKind.{BitKind}
 use Rattle.dslx_meaning.specs.declared.ty.DslxType.{DslxType, out-DslxType}
 use Rattle.dslx_meaning.specs.declared.ty.DslxType as ty
+use Rattle.dslx_meaning.specs.declared.ty.DslxType.TheFolds.{fold-roll-DslxType}
+use Rattle.dslx_meaning.specs.declared.ty.DslxType.TheOpen.{DslxType-F}
+use Rattle.dslx_meaning.specs.declared.ty.DslxType.TheVariants as type_rolls
 use Rattle.dslx_meaning.specs.declared.ty.DslxType.TheViews as type_views
 use Rattle.dslx_meaning.specs.declared.value.DslxValue.{DslxValue}
 use Rattle.dslx_meaning.specs.declared.value.DslxValue as value
 use Rattle.dslx_meaning.specs.declared.value.DslxValue.TheViews as views
 use Rattle.dslx_meaning.specs.declared.value.UntypedLiteral.{UntypedLiteral}
-use Rattle.dslx_meaning.specs.Rules.TypeEnvs.{TypeEnv, Judgement, ExprPair, breaks_if, has_broken, span_of, untyped_of, alone, types_of, faults_of_all}
+use Rattle.dslx_meaning.specs.Rules.TypeEnvs.{TypeEnv, Judgement, ExprPair, breaks_if, found_number, has_broken, leaf_widths, passes_widths, span_of, untyped_of, alone, types_of, faults_of_all, widths_in}
 use Rattle.dslx_meaning.specs.Rules.ConstantRules.{is_empty, untyped_typing, is_zero}
 use Rattle.dslx_meaning.specs.Rules.PatternRules.{is_there}
-use Rattle.dslx_meaning.specs.Rules.AggregateRules.{array_in, element_type, element_in, element_alone, wanted_faults, range_faults, first_type_of, like_first, array_faults, count_wrong, typed_array, untyped_array, when_all}
+use Rattle.dslx_meaning.specs.Rules.AggregateRules.{array_in, element_type, element_in, element_alone, wanted_faults, range_faults, first_type_of, like_first, array_faults, count_wrong, is_narrow, typed_array, untyped_array, untyped_value, when_all}
 use Rattle.dslx_core.proofs.Lemmas.Typing.Laws.{and_true, is_bits_type}
 use Rattle.dslx_core.specs.Typing.Typed.Kinds.{each_of, is_of, elements_all_of}
 use Rattle.dslx_core.specs.Typing.Typed.Declared.{Declarations, IsDeclared, AllDeclared}
-use Rattle.dslx_core.specs.Typing.Typed.Given.{GivesOf, GivesItsType, EachGives, MeansThere, EachMeans}
+use Rattle.dslx_core.specs.Typing.Typed.Given.{GivesOf, GivesItsType, HasNarrowLeaves, EachGives, MeansThere, EachMeans}
 use Rattle.dslx_core.proofs.OnTyping.OnTyped.TypingRelations.{none_some, same_some, unbroken_parts, three_unbroken, rule_holds, test_holds, not_false, settled_type}
 use Rattle.dslx_core.proofs.OnTyping.OnTyped.OfTypes.{of_array, bits_of_width}
 use Rattle.dslx_core.proofs.OnTyping.OnTyped.OfWords.{number_lies}
@@ -162,6 +168,34 @@ number_given types t number e d = by_kind (bits_in t) refl e
         let r = is_bits_type t (ap is_there q) in
         let same = same_some r.0 k (sym r.2 ∙ q) in
         in_kind k q (r.1 ∙ (λ i. ty.Bits (same i).signed (same i).width)) (word_in_range k number) refl (sym (ap (λ o. is_there (number_in o number)) q) ∙ h)
+
+-- bits are within the limit on widths
+narrow_bits : (t : DslxType) → HasNarrowLeaves t → (k : BitKind) → bits_in t ≡ Some k → is_narrow (Some k) ≡ true
+narrow_bits t h k e = by_test (nat_lt 128 k.width) refl (ap (passes_widths h.0) (sym widths) ∙ h.1)
+  where
+    own : t ≡ ty.Bits k.signed k.width
+    own =
+        let r = is_bits_type t (ap is_there e) in
+        let same = same_some r.0 k (sym r.2 ∙ e) in
+        r.1 ∙ (λ i. ty.Bits (same i).signed (same i).width)
+
+    widths : leaf_widths t ≡ k.width ∷ []
+    widths = ap leaf_widths (own ∙ sym (type_rolls.rolls-Bits k.signed k.width)) ∙ fold-roll-DslxType (List ℕ) widths_in (DslxType-F.Bits k.signed k.width)
+
+    by_test : (b : Bool) → nat_lt 128 k.width ≡ b → ((if b then Passed h.0 (record { what = what.Width; found = found_number k.width; most = 128 }) ∷ [] else []) ++ []) ≡ [] → nat_le k.width 128 ≡ true
+    by_test true q f = absurd (true≢false (sym (ap is_empty f)))
+    by_test false q f = le-leb k.width 128 (ltb-false 128 k.width q)
+
+-- so that a number in their range has its value
+pub untyped_there : (t : DslxType) → HasNarrowLeaves t → (number : UntypedLiteral) → untyped_value t number ≡ number_value t number
+untyped_there t h number = by_kind (bits_in t) refl
+  where
+    by_kind : (o : Option BitKind) → bits_in t ≡ o → where_true (is_narrow o) (number_in o number) ≡ number_in o number
+    by_kind None q = refl
+    by_kind (Some k) q = ap (λ b. where_true b (number_in (Some k) number)) (narrow_bits t h k q)
+
+pub untyped_given : (types : Declarations) (t : DslxType) (number : UntypedLiteral) → is_there (number_value t number) ≡ true → HasNarrowLeaves t → IsDeclared types t → GivesOf types t (untyped_value t number)
+untyped_given types t number e h d = subst (GivesOf types t) (sym (untyped_there t h number)) (number_given types t number e d)
 
 -- ---- with a type
 

@@ -5,8 +5,8 @@ use Rattle.std.specs.List.{list_all}
 use Rattle.dslx_tree.specs.declared.expr.Expr.{Expr}
 use Rattle.dslx_tree.specs.declared.item.Field.{Field}
 use Rattle.dslx_tree.specs.declared.item.Parametric.{Parametric}
-use Rattle.dslx_meaning.specs.Lists.{and_then, is_in}
-use Rattle.dslx_meaning.specs.Types.{same_type, is_unit}
+use Rattle.dslx_meaning.specs.Lists.{and_then, is_in, where_true}
+use Rattle.dslx_meaning.specs.Types.{bits_in, same_type, is_unit}
 use Rattle.dslx_meaning.specs.Values.{type_of_value}
 use Rattle.dslx_meaning.specs.Operators.{number_value}
 use Rattle.dslx_meaning.specs.Environment.{Meanings, Given, given_in}
@@ -16,6 +16,8 @@ use Rattle.dslx_meaning.specs.Items.{with_number, parametric_args_bound, inferre
 use Rattle.dslx_meaning.specs.declared.ty.DslxType.{DslxType}
 use Rattle.dslx_meaning.specs.declared.value.DslxValue.{DslxValue}
 use Rattle.dslx_meaning.specs.Rules.TypeEnvs.{GlobalEnv}
+use Rattle.dslx_meaning.specs.Rules.AggregateRules.{is_narrow}
+use Rattle.dslx_meaning.specs.Rules.PatternRules.{is_there}
 use Rattle.dslx_meaning.specs.Rules.TypeRules.{unless_unit}
 use Rattle.dslx_meaning.specs.Rules.CallRules.{ParametricArgument, Resolved, Number, Unknown, Wrong, resolved_value, in_type, of_type, parametric_type, default_value, not_given, parametric_args_for, inferred_by, known_before, and_parametric, value_before, parametric_args_seen}
 use Rattle.dslx_core.specs.Typing.Typed.Declared.{Declarations, IsDeclared}
@@ -100,16 +102,13 @@ inferred_alike (f ∷ fs) [] = refl
 inferred_alike (f ∷ fs) (t ∷ ts) = ap (λ is. inferred_in f.ty t ++ is) (inferred_alike fs ts)
 
 -- a number in the type of a parameter
-abbrev or_wrong : Option DslxValue → Resolved
-or_wrong None = Wrong
-or_wrong (Some v) = Number v
-
-in_its_type : (t : DslxType) (n : ℕ) → in_type (Some t) n ≡ or_wrong (number_value t (record { is_negative = false; value = n }))
-in_its_type t n = refl
-
-number_or_wrong : (o : Option DslxValue) → number_of (or_wrong o) ≡ o
-number_or_wrong None = refl
-number_or_wrong (Some v) = refl
+in_its_type : (t : DslxType) (n : ℕ) (v : DslxValue) → number_of (in_type (Some t) n) ≡ Some v → number_value t (record { is_negative = false; value = n }) ≡ Some v
+in_its_type t n v e = by_test (number_value t (record { is_negative = false; value = n })) (is_narrow (bits_in t)) e
+  where
+    by_test : (o : Option DslxValue) (b : Bool) → number_of (if is_there o then resolved_value (where_true b o) else Wrong) ≡ Some v → o ≡ Some v
+    by_test None b h = none_some v h
+    by_test (Some w) true h = h
+    by_test (Some w) false h = none_some v h
 
 -- a parameter that isn't given
 found_otherwise : (known : GlobalEnv) (items : Meanings) (owner : List ℕ) (inferred : List Inferred) (before : List (Option DslxValue)) (so_far : List Given) (p : Parametric) (maybe : Bool) (v : DslxValue)
@@ -130,7 +129,7 @@ found_otherwise known items owner inferred before so_far p maybe v means e =
     by_type n None q h = none_some v h
     by_type n (Some t) q h =
         ap (λ o. and_then o (λ t. number_value t (record { is_negative = false; value = n }))) (means.types t (parametric_is known owner before t q))
-        ∙ sym (number_or_wrong (number_value t (record { is_negative = false; value = n }))) ∙ h
+        ∙ in_its_type t n v h
 
     by_one : (n : ℕ) (b : Bool) → number_of (if b then in_type (parametric_type known owner (known_before before)) n else Wrong) ≡ Some v
         → and_then (written_type p.ty (record { items = items; bound = so_far })) (λ t. number_value t (record { is_negative = false; value = n })) ≡ Some v

@@ -19,9 +19,8 @@ use Rattle.dslx_tree.specs.declared.process.ConfigStatement.TheVariants as confi
 use Rattle.dslx_tree.specs.declared.process.Proc.{Proc}
 use Rattle.dslx_tree.specs.declared.process.Spawn.{Spawn}
 use Rattle.dslx_meaning.specs.Network.{as_proc}
-use Rattle.dslx_meaning.specs.Operators.{number_value}
 use Rattle.dslx_meaning.specs.declared.value.UntypedLiteral.{UntypedLiteral}
-use Rattle.dslx_meaning.specs.Rules.AggregateRules.{range_faults, wanted_faults}
+use Rattle.dslx_meaning.specs.Rules.AggregateRules.{range_faults, wanted_faults, untyped_value}
 use Rattle.dslx_meaning.specs.Rules.CallRules.{ParametricArgument, ParametricArgsSeen, given_judgements, given_parametric_args, is_refused, typing_there, reached_by}
 use Rattle.dslx_meaning.specs.Rules.ConstantRules.{ConstantSeen, constant_of, is_empty}
 use Rattle.dslx_meaning.specs.Rules.Typings.{ArgPair}
@@ -449,7 +448,7 @@ found_fields P context before (f ∷ fs) bound h =
 
 abbrev in_base : Option DslxType → UntypedLiteral → Option DslxValue
 in_base None number = None
-in_base (Some t) number = number_value t number
+in_base (Some t) number = untyped_value t number
 
 abbrev of_base : Option DslxType → ConstantSeen → List Fault → ConstantFound
 of_base base c wrong = record {

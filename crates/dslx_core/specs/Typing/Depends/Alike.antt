@@ -1,10 +1,14 @@
 -- Items of a text on which two global environments agree.
-use Rattle.std.specs.Prelude.{◌≡◌, ℕ, List, [], ◌∷◌, Bool, true, false, Option, Some}
+use Rattle.std.specs.Prelude.{◌≡◌, ◌||◌, ℕ, List, [], ◌∷◌, length, map, Bool, true, false, Option, Some}
 use Rattle.dslx_tree.specs.declared.item.Enum.{Enum}
 use Rattle.dslx_tree.specs.declared.item.Function.{Function}
+use Rattle.dslx_meaning.specs.Environment.{given_in}
+use Rattle.dslx_meaning.specs.Lists.{is_in}
 use Rattle.dslx_meaning.specs.Items.{as_enum, as_function, item_named}
 use Rattle.dslx_meaning.specs.declared.value.DslxValue.{DslxValue}
-use Rattle.dslx_meaning.specs.Rules.TypeEnvs.{Instance, GlobalEnv, TypeEnv}
+use Rattle.dslx_meaning.specs.Rules.ModuleRules.{parametrics_of}
+use Rattle.dslx_meaning.specs.Rules.PatternRules.{is_there}
+use Rattle.dslx_meaning.specs.Rules.TypeEnvs.{Instance, GlobalEnv, Typed, TypeEnv}
 use Rattle.dslx_meaning.specs.Rules.Mentions.{Use, AsValue, AsPattern, AsType, AsFunction, AsProc, AsEnum, AsStruct, Mention, item_reaches}
 use Rattle.dslx_core.specs.Typing.TypingRelations.Reached.{MentionsReach}
 
@@ -14,22 +18,26 @@ in_globals context known = record context { known = known }
 
 -- ---- functions
 
+-- as many values as an item has parametrics
+abbrev pub OfAllParametrics : GlobalEnv → List ℕ → List (Option DslxValue) → Type 0
+OfAllParametrics known owner values = length values ≡ length (parametrics_of (item_named owner known.whole.items))
+
 -- the types and the defaults of an item's parametrics, and its signature, whatever is known of the parametrics before
 pub record DeclaredAlike (a b : GlobalEnv) (owner : List ℕ) : Type 0 where
   pub parameter : (before : List (Option DslxValue)) → a.parameter_in owner before ≡ b.parameter_in owner before
   pub default : (before : List (Option DslxValue)) → a.default_in owner before ≡ b.default_in owner before
-  pub signature : (values : List (Option DslxValue)) → a.signature_in owner values ≡ b.signature_in owner values
+  pub signature : (values : List (Option DslxValue)) → OfAllParametrics a owner values → a.signature_in owner values ≡ b.signature_in owner values
 
 -- of a function of the own group, whose calls rule 3 refuses, types and values alone are looked at
 pub record TypesAlike (a b : GlobalEnv) (owner : List ℕ) : Type 0 where
   pub parameter : (before : List (Option DslxValue)) → (a.parameter_in owner before).ty ≡ (b.parameter_in owner before).ty
   pub default : (before : List (Option DslxValue)) → (a.default_in owner before).value ≡ (b.default_in owner before).value
-  pub signature : (values : List (Option DslxValue)) → a.signature_in owner values ≡ b.signature_in owner values
+  pub signature : (values : List (Option DslxValue)) → OfAllParametrics a owner values → a.signature_in owner values ≡ b.signature_in owner values
 
 -- a function: what it declares, and how large its instances are
 pub record FunctionAlike (a b : GlobalEnv) (f : Function) : Type 0 where
   pub declared : DeclaredAlike a b f.name.name
-  pub size : (parametric_args : List DslxValue) → a.body_size (record { name = f.name.name; parametric_args = parametric_args }) ≡ b.body_size (record { name = f.name.name; parametric_args = parametric_args })
+  pub size : (parametric_args : List DslxValue) → length parametric_args ≡ length f.parametrics → a.body_size (record { name = f.name.name; parametric_args = parametric_args }) ≡ b.body_size (record { name = f.name.name; parametric_args = parametric_args })
 
 -- a function by its name, and what its calls give
 pub record CalleeAlike (a b : GlobalEnv) (name : List ℕ) : Type 0 where
@@ -93,3 +101,21 @@ pub record SeesAlike (P : List ℕ → Bool) (bound : List (List ℕ)) (owner : 
   pub hidden : NamesAlike a b bound
   pub reach : MentionsReach P a owner ms
   pub alike : MentionsAlike a b owner ms
+
+-- ---- what a part stands behind
+
+-- the name is that of a local or of a parametric, whether the parametric's value is known or not
+abbrev pub is_bound_there : TypeEnv → List ℕ → Bool
+is_bound_there context name = is_in name (map (λ (l : Typed). l.name) context.locals) || (is_there (given_in name context.parametric_args) || is_in name context.unknown)
+
+-- each constant is known alike whose name is bound around a part, but for those that its type environment hides
+abbrev pub HiddenAlike : List (List ℕ) → TypeEnv → GlobalEnv → Type 0
+HiddenAlike bound context other = (name : List ℕ) → is_in name bound ≡ true → is_bound_there context name ≡ false → context.known.items.constant name ≡ other.items.constant name
+
+-- what a part needs in this type environment
+pub record SeesFrom (P : List ℕ → Bool) (bound : List (List ℕ)) (context : TypeEnv) (other : GlobalEnv) (ms : List Mention) : Type 0 where
+  pub known : GlobalsAgree P context.known other
+  pub enums : (name member : List ℕ) → item_reaches context.known.whole context.owner name ≡ true → context.known.items.member name member ≡ other.items.member name member
+  pub hidden : HiddenAlike bound context other
+  pub reach : MentionsReach P context.known context.owner ms
+  pub alike : MentionsAlike context.known other context.owner ms

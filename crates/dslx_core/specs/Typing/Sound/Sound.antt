@@ -18,7 +18,7 @@ use Rattle.dslx_meaning.specs.Rules.Typings.{ArmSeen, BlockPair, FieldSeen, Patt
 use Rattle.dslx_meaning.specs.Rules.PatternRules.{is_there, pattern_alone}
 use Rattle.dslx_core.specs.Typing.Typed.Complete.{IsWellTypedPart}
 use Rattle.dslx_core.specs.Typing.Typed.Declared.{Declarations}
-use Rattle.dslx_core.specs.Typing.Typed.Given.{GivesOf, IsSized, TypeMeans}
+use Rattle.dslx_core.specs.Typing.Typed.Given.{GivesOf, HasNarrowLeaves, IsSized, TypeMeans}
 use Rattle.dslx_core.specs.Typing.Sound.Scopes.{EachPatternSeesAlike, IsWellTypedPattern}
 use Rattle.dslx_core.specs.Typing.Typed.WellTyped.{GoesOnTyped, IsWellTypedEnv, PatternKeeps, comes_to_an_arm, types_at}
 
@@ -58,6 +58,7 @@ pub record TypeHasDen (j : TypeExprTyping) (f : TypeDen) : Type 0 where
   pub known : (context : TypeEnv) (env : Env) → IsWellTypedEnv context env → IsWellTypedPart context.known (j context) → (t : DslxType) × ((j context).ty ≡ Some t)
   -- it counts nothing
   pub sized : (context : TypeEnv) (t : DslxType) → (j context).ty ≡ Some t → (j context).size ≡ Some 0
+  pub narrow : (context : TypeEnv) → (j context).faults ≡ [] → (t : DslxType) → (j context).ty ≡ Some t → HasNarrowLeaves t
 
 abbrev pub EachTypeHasDen : List TypePair → List TypeDen → Type 0
 EachTypeHasDen [] [] = Unit {0}

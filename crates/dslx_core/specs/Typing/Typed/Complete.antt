@@ -16,7 +16,7 @@ use Rattle.dslx_meaning.specs.Rules.TypeEnvs.{GlobalEnv, Judgement, DefaultSeen,
 use Rattle.dslx_meaning.specs.Rules.CallRules.{parametric_type, known_before}
 use Rattle.dslx_meaning.specs.Rules.Mentions.{is_of_use, AsType}
 use Rattle.dslx_core.specs.Typing.Typed.Declared.{Declarations, IsDeclared, DeclaresParts}
-use Rattle.dslx_core.specs.Typing.Typed.Given.{GivesOf, IsSized, OwnTypes}
+use Rattle.dslx_core.specs.Typing.Typed.Given.{GivesOf, HasNarrowLeaves, IsSized, OwnTypes}
 use Rattle.dslx_core.specs.Typing.Typed.Numbers.{FitParametricArgs, ParametricsMean, values_behind}
 
 -- nothing that a part breaks or passes, and nothing that it reaches does
@@ -69,6 +69,7 @@ pub record IsDefaultKnown (types : Declarations) (seen : DefaultSeen) : Type 0 w
 pub record IsParametricKnown (known : GlobalEnv) (owner : List ℕ) (before : List (Option DslxValue)) (p : Parametric) : Type 0 where
   pub declared : (t : DslxType) → (known.parameter_in owner before).ty ≡ Some t → IsDeclared known.items.type_named t
   pub typed : IsWellTypedPart known (known.parameter_in owner before) → IsTypeKnown (known.parameter_in owner before).ty
+  pub narrow : (known.parameter_in owner before).faults ≡ [] → (t : DslxType) → (known.parameter_in owner before).ty ≡ Some t → HasNarrowLeaves t
   pub default : (e : Expr) → p.default ≡ Some e → IsWellTypedPart known (known.default_in owner before).judgement → IsDefaultKnown known.items.type_named (known.default_in owner before)
 
 -- all parameters, each behind values of the types of those before it

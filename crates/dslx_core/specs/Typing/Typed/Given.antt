@@ -5,7 +5,7 @@ use Rattle.dslx_meaning.specs.declared.value.DslxValue.{DslxValue}
 use Rattle.dslx_meaning.specs.Lists.{beside}
 use Rattle.dslx_meaning.specs.Environment.{Env}
 use Rattle.dslx_meaning.specs.Meaning.{ExprDen, FieldDen}
-use Rattle.dslx_meaning.specs.Rules.TypeEnvs.{TypeEnv, Judgement, ExprPair, untyped_of, alone}
+use Rattle.dslx_meaning.specs.Rules.TypeEnvs.{TypeEnv, Judgement, ExprPair, untyped_of, alone, leaf_widths, passes_widths}
 use Rattle.dslx_meaning.specs.Rules.Typings.{FieldSeen, TypePair}
 use Rattle.dslx_meaning.specs.Rules.AggregateRules.{field_typing}
 use Rattle.dslx_core.specs.Typing.Typed.Kinds.{is_of}
@@ -17,6 +17,10 @@ pub record GivesOf (types : Declarations) (t : DslxType) (o : Option DslxValue) 
   pub is : o ≡ Some value
   pub of : is_of t value ≡ true
   pub declared : IsDeclared types t
+
+-- all its bits are within the limit on widths
+abbrev pub HasNarrowLeaves : DslxType → Type 0
+HasNarrowLeaves t = (at : ℕ) × (passes_widths at (leaf_widths t) ≡ [])
 
 -- a size is there
 abbrev pub IsSized : Option ℕ → Type 0

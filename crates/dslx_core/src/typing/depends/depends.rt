@@ -1,6 +1,5 @@
 ghost use Rattle.dslx_core.specs.Typing.Depends.Alike.{SeesAlike, TypesAlike, UseAlike, in_globals};
 ghost use Rattle.dslx_core.specs.Typing.Depends.Groups.{without_own};
-ghost use Rattle.dslx_core.specs.Typing.Depends.Settled.{BindsNoConstant};
 ghost use Rattle.dslx_meaning.specs.Items.{as_function, item_named};
 ghost use Rattle.dslx_meaning.specs.Rules.TypeEnvs.{Instance, GlobalEnv, TypeEnv};
 ghost use Rattle.dslx_meaning.specs.Rules.Mentions.{Use, mentioned, mentioned_in_block, mentioned_in_type};
@@ -27,13 +26,12 @@ pub fn a_judgement_depends_on_what_is_mentioned()
         → SeesAlike P bound context.owner context.known other (mentioned_in_type t bound) → (type_pair t).1 context ≡ (type_pair t).1 (in_globals context other) }
 {}
 
-/// Where no function binds the name of a constant, global environments settle, whatever reaches itself: by chains of twice as many
-/// links as the text has items, and by all longer ones, they have the same of each constant, type, enum and function, and of the
-/// instances of functions.
+/// Global environments settle, whatever reaches itself and whatever names are bound: by chains of twice as many links as the text has
+/// items, and by all longer ones, they have the same of each constant, type, enum and function, and of the instances of functions.
 pub fn what_is_known_settles()
-    ensures items { (m : Module) → BindsNoConstant m → (a b : ℕ) → 2 * length m.items ≤ a → 2 * length m.items ≤ b
+    ensures items { (m : Module) (a b : ℕ) → 2 * length m.items ≤ a → 2 * length m.items ≤ b
         → (u : Use) (name : List ℕ) → UseAlike (globals_within m a) (globals_within m b) u name }
-    ensures instances { (m : Module) → BindsNoConstant m → (a b : ℕ) → 2 * length m.items ≤ a → 2 * length m.items ≤ b
+    ensures instances { (m : Module) (a b : ℕ) → 2 * length m.items ≤ a → 2 * length m.items ≤ b
         → (i : Instance) (f : Function) → as_function (item_named i.name m.items) ≡ Some f
         → ((globals_within m a).is_sound i ≡ (globals_within m b).is_sound i) × ((globals_within m a).is_unbroken i ≡ (globals_within m b).is_unbroken i) }
 {}

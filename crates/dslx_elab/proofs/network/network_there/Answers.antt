@@ -14,18 +14,18 @@ elaborate-requires c = c.accepted_texts_run.ensures.linked c.requires.text c.req
 pub returns-in_err-net-clause-refused : goal.returns-in_err-net-clause-refused
 returns-in_err-net-clause-refused c =
     err_handed c.from_residual.result c.in_err-net.field-0.0 (λ (e : ReadError). e ≡ OutOfMemory) c.from_residual.ensures.1
-    (only_memory (core_network c.args.design.now) c.in_err-net.field-0.0 c.in_err-net.ensures.refused (c.accepted_texts_run.ensures.limits c.requires.text c.requires.top c.args.design.now c.requires.accepted c.requires.made))
+    (only_memory (core_network c.args.design.now) c.in_err-net.field-0.0 c.in_err-net.ensures.refused (c.accepted_texts_run.ensures.limits c.requires.text c.requires.top c.args.design.now c.requires.accepted c.requires.made c.requires.checked))
 
 pub bodies_of-requires-clause-words : goal.bodies_of-requires-clause-words
 bodies_of-requires-clause-words c = c.accepted_texts_run.ensures.words c.requires.text c.requires.top c.args.design.now c.requires.made
 
 pub bodies_of-requires-clause-keep : goal.bodies_of-requires-clause-keep
-bodies_of-requires-clause-keep c = (c.accepted_texts_run.ensures.runs c.requires.text c.requires.top c.args.design.now c.requires.accepted c.requires.made).keep
+bodies_of-requires-clause-keep c = (c.accepted_texts_run.ensures.runs c.requires.text c.requires.top c.args.design.now c.requires.accepted c.requires.made c.requires.checked).keep
 
 pub returns : goal.returns
 returns c = record {
-  runs = λ m top a made.
+  runs = λ m top a from checked.
       subst (λ (net : Net). RunsText m top net (map behavior_of c.in_ok-bodies.bodies.items)) (sym c.in_ok-net.ensures.net)
-      (subst (RunsText m top (core_network c.args.design.now)) (sym c.in_ok-bodies.ensures) (c.accepted_texts_run.ensures.runs m top c.args.design.now a made));
+      (subst (RunsText m top (core_network c.args.design.now)) (sym c.in_ok-bodies.ensures) (c.accepted_texts_run.ensures.runs m top c.args.design.now a from checked));
   refused = tt;
 }

@@ -9,17 +9,17 @@ use Rattle.dslx_elab.proofs.OnRuns.{within_limits}
 use Rattle.dslx_elab.proofs.runs.accepted_texts_run.Goals as goal
 
 pub returns-clause-runs : goal.returns-clause-runs
-returns-clause-runs c = λ m top design a made.
+returns-clause-runs c = λ m top design a made checked.
     let faults = c.networks_keep_the_limits.ensures.accepted m top a.none in
-    let core = c.accepted_texts_are_well_typed.ensures.stands m top design a.free a.plain faults made in
+    let core = c.accepted_texts_are_well_typed.ensures.stands m top design faults made checked in
     record {
       network = core.network;
       alike = core.behaviors;
-      fits = c.made_networks_are_nets.ensures.named m top design a.free a.plain a.slashes a.none made;
+      fits = c.made_networks_are_nets.ensures.named m top design a.slashes a.none made checked;
       of_net = c.behaviors_are_of_their_networks.ensures.designs design;
-      keep = c.made_networks_are_nets.ensures.keep m top design a.free a.plain faults made;
+      keep = c.made_networks_are_nets.ensures.keep m top design faults made checked;
       outcomes = λ inputs n depths fit few.
-          c.accepted_designs_have_the_same_outcomes.ensures m top design inputs n depths a.free a.plain a.none made (subst (λ (net : Net). IsInputs net inputs) core.network fit) few;
+          c.accepted_designs_have_the_same_outcomes.ensures m top design inputs n depths a.none made checked (subst (λ (net : Net). IsInputs net inputs) core.network fit) few;
     }
 
 pub returns-clause-linked : goal.returns-clause-linked
@@ -29,17 +29,17 @@ pub returns-clause-words : goal.returns-clause-words
 returns-clause-words c = c.made_designs_receive_words.ensures
 
 pub returns-clause-limits : goal.returns-clause-limits
-returns-clause-limits c = λ m top design a made.
+returns-clause-limits c = λ m top design a made checked.
     let faults = c.networks_keep_the_limits.ensures.accepted m top a.none in
-    let core = c.accepted_texts_are_well_typed.ensures.stands m top design a.free a.plain faults made in
+    let core = c.accepted_texts_are_well_typed.ensures.stands m top design faults made checked in
     ap network_limit core.network
-    ∙ within_limits (network_of m top) (c.networks_keep_the_limits.ensures.procs m top a.free a.plain a.none) (c.networks_keep_the_limits.ensures.channels m top a.free a.plain a.none)
+    ∙ within_limits (network_of m top) (c.networks_keep_the_limits.ensures.procs m top a.none) (c.networks_keep_the_limits.ensures.channels m top a.none)
 
 pub returns-clause-few : goal.returns-clause-few
-returns-clause-few c = λ m top design a made.
+returns-clause-few c = λ m top design a made checked.
     let faults = c.networks_keep_the_limits.ensures.accepted m top a.none in
-    let core = c.accepted_texts_are_well_typed.ensures.stands m top design a.free a.plain faults made in
+    let core = c.accepted_texts_are_well_typed.ensures.stands m top design faults made checked in
     let heads = length-map (core_family design).procs core_head in
     let same : length (core_network design).procs ≡ length (network_of m top).procs = ap (λ (net : Net). length net.procs) core.network in
-    let few = c.networks_keep_the_limits.ensures.procs m top a.free a.plain a.none in
+    let few = c.networks_keep_the_limits.ensures.procs m top a.none in
     omega (arith, heads, same, few)

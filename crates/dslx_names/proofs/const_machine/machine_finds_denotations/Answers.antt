@@ -1,12 +1,15 @@
-use Rattle.std.proofs.Common.{[], ◌∷◌, ap}
+use Rattle.std.proofs.Common.{[], ◌∷◌, Some, ap}
 use Rattle.dslx_names.specs.ConstMachine.States.{value_in, type_in, count_in_finding}
-use Rattle.dslx_names.specs.ConstMachine.Steps.{begins}
+use Rattle.dslx_names.specs.ConstMachine.Steps.{begins, begins_over}
 use Rattle.dslx_names.specs.ConstMachine.Tasks.{ValueDen, FindsType, CountsSize, CountsBound}
 use Rattle.dslx_names.proofs.Lemmas.ConstMachine.{comes_to_after}
 use Rattle.dslx_names.proofs.const_machine.machine_finds_denotations.Goals as goal
 
 pub returns-clause-value : goal.returns-clause-value
 returns-clause-value c = λ m bound e n f found. ap value_in (comes_to_after n (ValueDen e ∷ []) (begins m bound (ValueDen e)) f found)
+
+pub returns-clause-over : goal.returns-clause-over
+returns-clause-over c = λ m kept bound e n f found. ap value_in (comes_to_after n (ValueDen e ∷ []) (begins_over m (Some kept) bound (ValueDen e)) f found)
 
 pub returns-clause-ty : goal.returns-clause-ty
 returns-clause-ty c = λ m bound t n f found. ap type_in (comes_to_after n (FindsType t ∷ []) (begins m bound (FindsType t)) f found)

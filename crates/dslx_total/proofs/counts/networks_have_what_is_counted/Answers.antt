@@ -5,9 +5,11 @@ use Rattle.dslx_tree.specs.declared.process.Proc.{Proc}
 use Rattle.dslx_meaning.specs.Environment.{Meanings}
 use Rattle.dslx_meaning.specs.Items.{instance_env, meanings_of}
 use Rattle.dslx_meaning.specs.Network.{family_of, head_at, net_if, outer_chan, outer_ends, elaborate_within, top_parametric_args}
-use Rattle.dslx_meaning.specs.Rules.ModuleRules.{instances_of, globals_of}
+use Rattle.dslx_meaning.specs.Rules.ModuleRules.{instances_of}
 use Rattle.dslx_meaning.specs.Rules.NetworkLimits.{count_in, counted_within}
 use Rattle.dslx_core.proofs.Lemmas.Typing.Accepted.{one_of_these}
+use Rattle.dslx_total.specs.Instances.Denoted.{checked_globals}
+use Rattle.dslx_total.proofs.OnClosed.Knowing.{checked_knows}
 use Rattle.dslx_total.proofs.OnConfigs.There.{accepted}
 use Rattle.dslx_total.proofs.OnFamilies.Counts.{all_counted, size_of_family}
 use Rattle.dslx_total.proofs.OnFamilies.Reached.{all}
@@ -21,16 +23,15 @@ IsCountedBy m top p items =
     ≡ count_in (counted_within m items (instances_of m top) (length m.items)) (record { name = p.name.name; parametric_args = top_parametric_args items p })
 
 pub returns : goal.returns
-returns c m top free plain faults p e =
-    let well_typed = c.items_of_accepted_texts_are_well_typed.ensures.well_typed m top plain faults in
-    let denotation = c.items_of_accepted_texts_are_well_typed.ensures.denotation m top free plain faults in
-    let complete = c.all_items_are_known.ensures.complete m plain well_typed in
-    let typed = c.all_items_are_known.ensures.typed m plain well_typed in
-    let s = accepted m top plain faults (c.instances_reach_one_another.ensures.text m top) (c.instances_reach_one_another.ensures.outside m top) in
-    let t = top_there m top s (c.looping_items_mean_nothing.ensures.constant m) complete typed p e in
-    let parametric_args = top_parametric_args (globals_of m).items p in
-    let counted : IsCountedBy m top p (meanings_of m) = subst (IsCountedBy m top p) denotation
-    (all_counted m top s (c.looping_items_mean_nothing.ensures.constant m) complete typed (length m.items) p.name.name p parametric_args (outer_ends 0 p.config.ends) (length p.config.ends)
+returns c m top faults p e =
+    let w = c.what_is_checked_is_known.ensures.known m top faults in
+    let known = checked_globals m top in
+    let s = accepted m top faults (c.instances_reach_one_another.ensures.text m top) (c.instances_reach_one_another.ensures.outside m top) in
+    let knows = checked_knows m top s w in
+    let t = top_there m top s known knows w.complete w.typed p e in
+    let parametric_args = top_parametric_args known.items p in
+    let counted : IsCountedBy m top p (meanings_of m) = subst (IsCountedBy m top p) w.denoted
+    (all_counted m top s known knows w.complete w.typed (length m.items) p.name.name p parametric_args (outer_ends 0 p.config.ends) (length p.config.ends)
     (record { checked = record { named = t.named; among = one_of_these (record { name = p.name.name; parametric_args = parametric_args }) (all m top s) t.among }; own = t.own })) in
     let top_count = count_in (counted_within m (meanings_of m) (instances_of m top) (length m.items)) (record { name = p.name.name; parametric_args = top_parametric_args (meanings_of m) p }) in
     let none : 0 + top_count.procs ≡ top_count.procs = omega arith in

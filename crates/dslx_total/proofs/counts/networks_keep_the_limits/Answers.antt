@@ -37,17 +37,17 @@ pub returns-clause-accepted : goal.returns-clause-accepted
 returns-clause-accepted c = λ m top e. (without_faults m top e).0
 
 pub returns-clause-procs : goal.returns-clause-procs
-returns-clause-procs c = λ m top free plain e.
+returns-clause-procs c = λ m top e.
     let q = without_faults m top e in
     let t = top_there m top q.0 in
     let n = network_count m top t.0 in
     let few = (none_in (whole_count what.Procs 256 n.procs) (whole_count what.Channels 1024 n.channels) ((λ i. network_faults m top (sym t.1 i)) ∙ q.1)).0 in
-    subst (λ k. k ≤ 256) (ap (λ (x : Count). x.procs) (c.networks_have_what_is_counted.ensures m top free plain q.0 t.0 t.1)) (within what.Procs 256 n.procs few)
+    subst (λ k. k ≤ 256) (ap (λ (x : Count). x.procs) (c.networks_have_what_is_counted.ensures m top q.0 t.0 t.1)) (within what.Procs 256 n.procs few)
 
 pub returns-clause-channels : goal.returns-clause-channels
-returns-clause-channels c = λ m top free plain e.
+returns-clause-channels c = λ m top e.
     let q = without_faults m top e in
     let t = top_there m top q.0 in
     let n = network_count m top t.0 in
     let few = (none_in (whole_count what.Procs 256 n.procs) (whole_count what.Channels 1024 n.channels) ((λ i. network_faults m top (sym t.1 i)) ∙ q.1)).1 in
-    subst (λ k. k ≤ 1024) (ap (λ (x : Count). x.channels) (c.networks_have_what_is_counted.ensures m top free plain q.0 t.0 t.1)) (within what.Channels 1024 n.channels few)
+    subst (λ k. k ≤ 1024) (ap (λ (x : Count). x.channels) (c.networks_have_what_is_counted.ensures m top q.0 t.0 t.1)) (within what.Channels 1024 n.channels few)

@@ -7,11 +7,11 @@ use Rattle.dslx_total.proofs.OnDesigns.Tops.{top_there}
 use Rattle.dslx_total.proofs.designs.accepted_texts_have_a_design.Goals as goal
 
 pub returns : goal.returns
-returns c m top free plain faults =
+returns c m top faults =
     let p = top_there m top faults in
-    let t = c.lower_total_configs.ensures.tops m top free plain faults p.0 p.1 in
-    let functions = c.accepted_functions_have_a_table.ensures m top free plain faults in
-    let table = c.accepted_procs_have_a_table.ensures m top free plain faults functions p.0 p.1 in
+    let t = c.lower_total_configs.ensures.tops m top faults p.0 p.1 in
+    let functions = c.accepted_functions_have_a_table.ensures m top faults in
+    let table = c.accepted_procs_have_a_table.ensures m top faults functions p.0 p.1 in
     let design : Design = record { name = p.0.name.name; outer = t.outer; functions = map core_function functions.known.table; procs = instances_alone table.table } in
     let made : IsDesignFrom m top design = record {
       proc = p.0;
@@ -31,4 +31,4 @@ returns c m top free plain faults =
       of_parametric_args = table.of_parametric_args;
       design_is = refl;
     } in
-    record { design = design; made = made; stands = c.accepted_texts_are_well_typed.ensures.stands m top design free plain faults made }
+    record { design = design; made = made; checked = functions.checked; stands = c.accepted_texts_are_well_typed.ensures.stands m top design faults made functions.checked }

@@ -13,13 +13,13 @@ use Rattle.dslx_total.proofs.OnOutcomes.Renamed.{numbered_kinds, outcome_same}
 use Rattle.dslx_total.proofs.outcomes.accepted_designs_have_the_same_outcomes.Goals as goal
 
 pub returns : goal.returns
-returns c m top design inputs n depths free plain kept made given small =
+returns c m top design inputs n depths kept made checked given small =
     let faults = c.networks_keep_the_limits.ensures.accepted m top kept in
-    let core = c.accepted_texts_are_well_typed.ensures.stands m top design free plain faults made in
+    let core = c.accepted_texts_are_well_typed.ensures.stands m top design faults made checked in
     let net = network_of m top in
-    let fits = c.accepted_networks_are_nets.ensures.numbered m top free plain kept in
+    let fits = c.accepted_networks_are_nets.ensures.numbered m top kept in
     let are = c.behaviors_are_of_their_networks.ensures.texts m top in
-    let keep = c.accepted_behaviors_keep_types.ensures m top free plain faults in
+    let keep = c.accepted_behaviors_keep_types.ensures m top faults in
     let xs = behaviors_of m top in
     let ys = core_behaviors design in
     let renamed = λ (bs : List Behavior). outcome_same (procs_of net.procs bs) net.chans (numbered_from 0 net.chans) (numbered_kinds 0 net.chans) inputs n depths in

@@ -9,13 +9,13 @@ use Rattle.dslx_core.proofs.OnTyping.OnLaws.Endings.{chains_mean, one_meaning}
 use Rattle.dslx_core.proofs.typing.denotation.global_env_is_sound.Goals as goal
 
 pub returns-clause-item : goal.returns-clause-item
-returns-clause-item c = λ m plain well_typed name ends.
-    let complete = c.all_items_are_known.ensures.complete m plain well_typed in
-    let typed = c.all_items_are_known.ensures.typed m plain well_typed in
+returns-clause-item c = λ m well_typed name ends.
+    let complete = c.all_items_are_known.ensures.complete m well_typed in
+    let typed = c.all_items_are_known.ensures.typed m well_typed in
     let s : IsSettled m (globals_of m) = record {
       text = whole_is m (2 * length m.items);
       kinds = complete.kinds;
-      uses = c.what_is_known_settles.ensures.items m plain (2 * length m.items) (suc (2 * length m.items)) (omega arith) (omega arith);
+      uses = c.what_is_known_settles.ensures.items m (2 * length m.items) (suc (2 * length m.items)) (omega arith) (omega arith);
       well_typed = well_typed;
       stand = record {
         constants = c.constants_are_known.ensures (globals_of m) complete typed;
@@ -27,13 +27,13 @@ returns-clause-item c = λ m plain well_typed name ends.
     chains_mean m (globals_of m).items (known_kinds m) (λ k n e. over_itself m (globals_of m) s n (chains_free m k n e)) (length m.items) (length m.items) name (omega arith) ends
 
 pub returns-clause-whole : goal.returns-clause-whole
-returns-clause-whole c = λ m free plain well_typed.
-    let complete = c.all_items_are_known.ensures.complete m plain well_typed in
-    let typed = c.all_items_are_known.ensures.typed m plain well_typed in
+returns-clause-whole c = λ m free well_typed.
+    let complete = c.all_items_are_known.ensures.complete m well_typed in
+    let typed = c.all_items_are_known.ensures.typed m well_typed in
     let s : IsSettled m (globals_of m) = record {
       text = whole_is m (2 * length m.items);
       kinds = complete.kinds;
-      uses = c.what_is_known_settles.ensures.items m plain (2 * length m.items) (suc (2 * length m.items)) (omega arith) (omega arith);
+      uses = c.what_is_known_settles.ensures.items m (2 * length m.items) (suc (2 * length m.items)) (omega arith) (omega arith);
       well_typed = well_typed;
       stand = record {
         constants = c.constants_are_known.ensures (globals_of m) complete typed;
