@@ -120,6 +120,16 @@ pub send_role : {E : Type 0} (o : Result OwnSignals E) (a c : WireList) (scope :
 send_role o a c scope registers views n q predicate ch operands e is same p =
     by_role o a c scope registers views n q (role.Send predicate ch) e is (subst (λ os. IfOk o (λ own. AddsWires a c (λ v. SendPut v scope registers (channel_view views ch) os predicate ch own))) same p)
 
+-- as many as there are to be
+pub counted_put : {E : Type 0} (o : Result OwnSignals E) (a c : WireList) (scope : Scope) (registers : SiteRegisters) (views : List ChannelView) (n : Node) (own : OwnSignals) → IfOk o (λ x. x ≡ own) → AddsWires a c (λ v. NodePut v scope registers views n own (role_of n))
+    → IfOk o (λ x. AddsWires a c (λ v. NodePut v scope registers views n x (role_of n)))
+counted_put (Ok x) a c scope registers views n own is p = subst (λ y. AddsWires a c (λ v. NodePut v scope registers views n y (role_of n))) (sym is) p
+counted_put (Err e) a c scope registers views n own is p = tt
+
+pub counted_long : {E : Type 0} (o : Result OwnSignals E) (count : ℕ) (ws all : List ℕ) → count ≡ length ws → ws ≡ all → IfOk o (λ x. length x.signals ≡ count) → IfOk o (λ x. length x.signals ≡ length all)
+counted_long (Ok x) count ws all many is p = p ∙ many ∙ ap length is
+counted_long (Err e) count ws all many is p = tt
+
 -- ---- a node is kept
 
 pub kept_site : {A E : Type 0} (o : Result A E) (made : NodeWires) (own : OwnSignals) (stage copies : ℕ) (constant : Bool) (site : Site) (nodes : List Place) (sites : List Site) → own.site ≡ Some site
@@ -171,6 +181,7 @@ node_kept v channels proc stages registers views made own stage copies constant 
   place = there_before made.places.nodes (place_of own stage copies constant ∷ []) k (place_of m.own (stage_at stages k) (copies_from registers k) (is_literal n.attributes)) m.place;
   site = site_kept made.sites (option_to_list own.site) (site_index proc.nodes k) m.own.site m.site;
   put = m.put;
+  count = m.count;
 }
 
 -- where a node stands that is put behind those that there are
@@ -183,9 +194,9 @@ pub record PutBehind (scope : Scope) (channels : List Channel) (proc : Proc) (st
 
 node_new : (v : Values) (channels : List Channel) (proc : Proc) (stages : List ℕ) (registers : ProcRegisters) (views : List ChannelView) (made : NodeWires) (scope : Scope) (own : OwnSignals) (k : ℕ) (n : Node)
     → length made.places.nodes ≡ k → length made.sites ≡ site_index proc.nodes k → PutBehind scope channels proc stages made k
-    → NodePut v scope (registers_of_site registers (length made.sites)) views n own (role_of n)
+    → NodePut v scope (registers_of_site registers (length made.sites)) views n own (role_of n) → length own.signals ≡ length (leaf_widths (ty_of n.ty))
     → NodeMade v channels proc stages registers views (with_node made own (stage_at stages k) (copies_from registers k) (is_literal n.attributes)) k n
-node_new v channels proc stages registers views made scope own k n count sites b put =
+node_new v channels proc stages registers views made scope own k n count sites b put long =
     let within : k ≤ length made.places.nodes = omega (arith, count) in
     record {
       scope = scope;
@@ -202,6 +213,7 @@ node_new v channels proc stages registers views made scope own k n count sites b
       place = there_behind made.places.nodes (place_of own (stage_at stages k) (copies_from registers k) (is_literal n.attributes)) k count;
       site = site_new made.sites (site_index proc.nodes k) own.site sites;
       put = subst (λ i. NodePut v scope (registers_of_site registers i) views n own (role_of n)) sites put;
+      count = long;
     }
 
 -- how many sites there are
@@ -228,8 +240,9 @@ sites_more v scope registers views n own (role.Send predicate c) sites i e put =
 
 first_more : (v : Values) (channels : List Channel) (proc : Proc) (stages : List ℕ) (registers : ProcRegisters) (views : List ChannelView) (made : NodeWires) (scope : Scope) (own : OwnSignals) (k : ℕ) (n : Node) → slice_get proc.nodes k ≡ Some n
     → PutBehind scope channels proc stages made k → FirstMade v channels proc stages registers views made k → NodePut v scope (registers_of_site registers (length made.sites)) views n own (role_of n)
+    → length own.signals ≡ length (leaf_widths (ty_of n.ty))
     → FirstMade v channels proc stages registers views (with_node made own (stage_at stages k) (copies_from registers k) (is_literal n.attributes)) (suc k)
-first_more v channels proc stages registers views made scope own k n there b f put =
+first_more v channels proc stages registers views made scope own k n there b f put long =
     let count = f.count in
     let more = length-append made.places.nodes (place_of own (stage_at stages k) (copies_from registers k) (is_literal n.attributes) ∷ []) in
     record {
@@ -243,7 +256,7 @@ first_more v channels proc stages registers views made scope own k n there b f p
           let node : n ≡ m = (let x : Some n ≡ Some m = sym there ∙ ap (slice_get proc.nodes) same ∙ e in cc) in
           subst (λ y. NodeMade v channels proc stages registers views (with_node made own (stage_at stages k) (copies_from registers k) (is_literal n.attributes)) j y) node
           (subst (λ i. NodeMade v channels proc stages registers views (with_node made own (stage_at stages k) (copies_from registers k) (is_literal n.attributes)) i n) same
-          (node_new v channels proc stages registers views made scope own k n count f.site_count b put)))
+          (node_new v channels proc stages registers views made scope own k n count f.site_count b put long)))
           (cases_lt j k);
     }
 
@@ -260,13 +273,13 @@ pub one_made : (a b c : WireList) (channels : List Channel) (proc : Proc) (stage
     (nodes : List Node) → nodes ≡ proc.nodes → k < length nodes → n ≡ get_or nodes k n → PutBehind scope channels proc stages made k → sites ≡ length made.sites → site ≡ registers_of_site registers sites → stage ≡ stage_at stages k
     → copies ≡ copies_from registers k → constant ≡ is_literal n.attributes → new ≡ with_node made own stage copies constant
     → AddsWires a b (λ v. FirstMade v channels proc stages registers views made k) → AddsWires b c (λ v. NodePut v scope site views n own (role_of n))
-    → AddsWires a c (λ v. FirstMade v channels proc stages registers views new (k + 1))
-one_made a b c channels proc stages registers views made new scope site own k stage copies sites constant n nodes same within item behind many site_is stage_is copies_are constant_is is p q = λ v h.
+    → length own.signals ≡ length (leaf_widths (ty_of n.ty)) → AddsWires a c (λ v. FirstMade v channels proc stages registers views new (k + 1))
+one_made a b c channels proc stages registers views made new scope site own k stage copies sites constant n nodes same within item behind many site_is stage_is copies_are constant_is is p q long = λ v h.
     let later = q v h in
     let sooner = p v later.0 in
     let there : slice_get proc.nodes k ≡ Some n = subst (λ ns. slice_get ns k ≡ Some n) same (item_there nodes k n within item) in
     let put = subst (λ r. NodePut v scope r views n own (role_of n)) (site_is ∙ ap (registers_of_site registers) many) later.1 in
-    let step = first_more v channels proc stages registers views made scope own k n there behind sooner.1 put in
+    let step = first_more v channels proc stages registers views made scope own k n there behind sooner.1 put long in
     let whole : with_node made own (stage_at stages k) (copies_from registers k) (is_literal n.attributes) ≡ new =
     ap (λ x. with_node made own x (copies_from registers k) (is_literal n.attributes)) (sym stage_is) ∙ ap₂ (λ x y. with_node made own stage x y) (sym copies_are) (sym constant_is) ∙ sym is in
     let one : suc k ≡ k + 1 = omega arith in

@@ -7,6 +7,7 @@ use Rattle.ir_tree.specs.declared.node.Role.TheVariants as role
 use Rattle.ir_tree.specs.declared.package.Channel.{Channel}
 use Rattle.ir_tree.specs.declared.package.Proc.{Proc}
 use Rattle.ir_tree.specs.NodeValues.{role_of, count_sites}
+use Rattle.ir_tree.specs.Types.{ty_of}
 use Rattle.vlog_tree.specs.declared.expression.Atom.{Atom}
 use Rattle.vlog_tree.specs.declared.expression.Atom.TheVariants as atom
 use Rattle.vlog_tree.specs.declared.signal.Signal.{Signal}
@@ -16,6 +17,7 @@ use Rattle.block_netlist.specs.declared.places.Place.{Place}
 use Rattle.block_netlist.specs.declared.scopes.Scope.{Scope}
 use Rattle.block_netlist.specs.declared.sites.Site.{Site}
 use Rattle.block_netlist.specs.Gates.{choice_gate}
+use Rattle.block_netlist.specs.Leaves.{leaf_widths}
 use Rattle.block_netlist.specs.Literals.{literal_atom}
 use Rattle.block_netlist.specs.Nodes.{site_index, word_nets, ProcNets}
 use Rattle.block_netlist.specs.Places.{shown_at}
@@ -115,7 +117,8 @@ abbrev pub IsSiteAt : List Site → ℕ → Option Site → Type 0
 IsSiteAt sites i None = Unit {0}
 IsSiteAt sites i (Some site) = slice_get sites i ≡ Some site
 
--- node k has its place, in its stage, and if it is a site its signals, by the registers and views of channels
+-- node k has its place, in its stage, with a signal for each number in its value, and if it is a site its signals, by the registers and views of
+-- channels
 pub record NodeMade (v : Values) (channels : List Channel) (proc : Proc) (stages : List ℕ) (registers : ProcRegisters) (views : List ChannelView) (made : NodeWires) (k : ℕ) (n : Node) : Type 0 where
   pub scope : Scope
   pub own : OwnSignals
@@ -124,6 +127,7 @@ pub record NodeMade (v : Values) (channels : List Channel) (proc : Proc) (stages
   pub place : slice_get made.places.nodes k ≡ Some (place_of own (stage_at stages k) (copies_from registers k) (is_literal n.attributes))
   pub site : IsSiteAt made.sites (site_index proc.nodes k) own.site
   pub put : NodePut v scope (registers_of_site registers (site_index proc.nodes k)) views n own (role_of n)
+  pub count : length own.signals ≡ length (leaf_widths (ty_of n.ty))
 
 -- the first nodes
 pub record FirstMade (v : Values) (channels : List Channel) (proc : Proc) (stages : List ℕ) (registers : ProcRegisters) (views : List ChannelView) (made : NodeWires) (i : ℕ) : Type 0 where

@@ -1,10 +1,12 @@
 //! The signals of a proc's nodes, and its sites.
 
-ghost use Rattle.std.specs.Prelude.{◌≡◌, ◌∷◌, [], IfOk, OnOk};
+ghost use Rattle.std.specs.Prelude.{◌≡◌, ◌∷◌, [], length, IfOk, OnOk};
 ghost use Rattle.ir_tree.specs.NodeValues.{role_of};
+ghost use Rattle.ir_tree.specs.Types.{ty_of};
 ghost use Rattle.vlog_tree.specs.declared.expression.Atom.TheVariants as atom;
 ghost use Rattle.block_netlist.specs.Added.{next_number, AddsWires, Puts};
 ghost use Rattle.block_netlist.specs.Gates.{choice_gate};
+ghost use Rattle.block_netlist.specs.Leaves.{leaf_widths};
 ghost use Rattle.block_procs.specs.Nodes.{nothing_there, channel_view, receive_site_of, send_site_of, with_node, PurePut, ReceivePut, SendPut, NodePut, NodesMade};
 ghost use Rattle.block_procs.specs.Registers.{state_place as place_of_state};
 
@@ -195,8 +197,37 @@ fn send_signals(
     })
 }
 
-/// The signals of a node, by what it is to the outside.
+/// The signals of a node, as many as the numbers in its value.
 fn own_signals(
+    alloc: Global,
+    wires: &mut WireList,
+    scope: Scope,
+    registers: SiteRegisters,
+    views: &[ChannelView],
+    node: &Node,
+) -> Result<OwnSignals, AllocError>
+    ensures put { IfOk result (λ own. AddsWires wires.old wires.new (λ v. NodePut v scope.entry registers views.now node.now own (role_of node.now))) }
+    ensures count { IfOk result (λ own. length own.signals ≡ length (leaf_widths (ty_of node.now.ty))) }
+{
+    let count = widths_of(alloc, &node.ty)?.len();
+    let own = role_signals(alloc, wires, scope, registers, views, node)?;
+    counted(own, count)
+}
+
+/// The signals, where there are so many. Those of a node of a verified proc always are as many as the numbers in its value.
+fn counted(own: OwnSignals, count: usize) -> Result<OwnSignals, AllocError>
+    ensures same { IfOk result (λ counted. counted ≡ own) }
+    ensures count { IfOk result (λ counted. length counted.signals ≡ count) }
+{
+    if own.signals.len() == count {
+        Ok(own)
+    } else {
+        Err(AllocError)
+    }
+}
+
+/// The signals of a node, by what it is to the outside.
+fn role_signals(
     alloc: Global,
     wires: &mut WireList,
     scope: Scope,

@@ -11,7 +11,7 @@ nodes-preserved c =
     c.nodes.i c.of-stage.result c.copies_of.result c.len.result c.is_literal.result c.index-nodes-i.result c.as_slice-nodes.result.now
     c.as_slice-nodes.ensures c.nodes-test.true c.index-nodes-i.is
     (record { of = refl; state = refl; before = ap (take c.nodes.i) c.as_slice-nodes.ensures; places = refl; stage = c.of-stage.ensures })
-    c.len.ensures c.of_site-site.ensures c.of-stage.ensures c.copies_of.ensures c.is_literal.ensures c.in_ok-keep.ensures c.nodes.invariant c.in_ok-own.ensures
+    c.len.ensures c.of_site-site.ensures c.of-stage.ensures c.copies_of.ensures c.is_literal.ensures c.in_ok-keep.ensures c.nodes.invariant c.in_ok-own.ensures.put c.in_ok-own.ensures.count
 
 pub returns : goal.returns
 returns c =
