@@ -25,13 +25,15 @@ use Rattle.dslx_core.specs.declared.expr.CoreExpr.TheFolds.{ind-CoreExpr, map-Co
 use Rattle.dslx_core.specs.declared.expr.Arm.{Arm, Arm-F, fold-Arm, roll-Arm}
 use Rattle.dslx_core.specs.CoreValues.{Bindings, Functions, CoreDen, CoreArmDen, word_of_value, array_values_step, tuple_values_step, unary_word, binary_words, is_signed_read, is_one, is_width, values_in, word_in, array_in, chosen, arm_or, select, turns, one_turn, taken_apart, first_apart, core_step, arm_step, core_value}
 use Rattle.dslx_core.proofs.Lemmas.Typing.Typed.OfLists.{all_there, all_are}
-use Rattle.dslx_core_types.specs.Typing.{Elements, bits_width, elements_of, parts_of_tuple, if_alike, all_alike, elements_alike, is_sound_word, value_type_step, value_type, unary_type, binary_type, binds_types, arm_binds, is_certain, last_binds, FunctionTypes, Typing, CoreArmTyping, types_in, width_in, arms_type, typing_step, arm_typing, core_type}
+use Rattle.dslx_core_types.specs.Typing.{Elements, bits_width, elements_of, parts_of_tuple, if_alike, all_alike, elements_alike, is_sound_word, value_type_step, value_type, unary_type, binary_type, binds_types, arm_binds, is_certain, last_binds, FunctionTypes, Typing, CoreArmTyping, types_in, width_in, arms_type, typing_step, is_fit, some_fits, all_fit, shapes_of, arm_typing, core_type}
 use Rattle.dslx_core_types.specs.Typing as typing
 use Rattle.dslx_core_types.specs.Sound.{AreOfTypes, HasValueOf, FunctionsGive}
 use Rattle.dslx_core_types.proofs.OnOptions.{IsThen, both, and_both, some_same, then_is, both_are, where_is, where_so}
 use Rattle.dslx_core_types.proofs.OnTypes.{same_number, if_alike_is, width_bounds, bits_type, tuple_type, array_type}
 use Rattle.dslx_core_types.proofs.OnWords.{IsWordIn, typed_word, word_in_value, unary_in, binary_in, cast_in, slice_in, sound_word, next_in}
 use Rattle.dslx_core_types.proofs.OnLists.{typed_tuple, more_typed, part_typed, typed_array, element_typed, updated_typed, within}
+use Rattle.dslx_core_types.proofs.OnFlat.{value_fits}
+use Rattle.dslx_core_types.proofs.OnPatterns.{behind, first_behind}
 use Rattle.dslx_core_types.proofs.OnShapes.{is_shape, arm_fits, arm_keeps, certain_fits, same_length}
 
 -- ---- what has a value
@@ -107,6 +109,19 @@ value_typed = value_induction IsValueTyped
     (λ vs each t h.
     let found = elements_are (map value_type vs) t (sym (values.fold-Array (Option Ty) value_type_step vs) ∙ h) in
     subst (λ u. IsOfType u (value.Array vs)) (sym found.is) (typed_array found.element (length (map value_type vs)) vs (sym (length-map vs value_type)) (elements_typed vs found.element each found.each)))
+
+-- ---- arms of which none before fits
+
+fit_alike : (bound : Bindings) (o : Option Bindings) → behind bound o ≡ None → is_fit o ≡ false
+fit_alike bound None e = refl
+fit_alike bound (Some more) e = absurd (cc)
+
+-- what fits behind an arm that doesn't
+others_fit : (ps : List Shape) (arms : List (List Shape)) (v : Value) (bound : Bindings) → first_apart ps v bound ≡ None → some_fits (ps ∷ arms) v ≡ true → some_fits arms v ≡ true
+others_fit ps arms v bound n e = sym (ap (λ b. b || some_fits arms v) (fit_alike bound (first_apart ps v []) (sym (first_behind ps v bound) ∙ n))) ∙ e
+
+none_fits : (ps : List Shape) (v : Value) (bound : Bindings) → first_apart ps v bound ≡ None → some_fits (ps ∷ []) v ≡ true → ⊥
+none_fits ps v bound n e = let never : false ≡ true = others_fit ps [] v bound n e in cc
 
 -- ---- the claim
 
@@ -290,18 +305,19 @@ module _ (functions : FunctionTypes) (calls : Functions) (ts : List Ty) (bound :
 
   -- ---- arms
 
-  last_sound : (a : CoreArmDen) (q : CoreArmTyping) (s t : Ty) (v : Value) → ArmSound a q → IsOfType s v → and_then (last_binds q.shapes s ts) (q.value functions) ≡ Some t → HasValueOf (arm_or calls a.value (first_apart a.shapes v bound) (a.value calls bound)) t
-  last_sound a q s t v z h e =
+  last_sound : (whole : Bool) (a : CoreArmDen) (q : CoreArmTyping) (s t : Ty) (v : Value) → ArmSound a q → IsOfType s v → (whole ≡ true → some_fits (q.shapes ∷ []) v ≡ true) → and_then (last_binds whole q.shapes s ts) (q.value functions) ≡ Some t
+      → HasValueOf (arm_or calls a.value (first_apart a.shapes v bound) (a.value calls bound)) t
+  last_sound whole a q s t v z h w e =
       so _ (arm_or calls a.value (first_apart q.shapes v bound) (a.value calls bound)) t (ap (λ ps. arm_or calls a.value (first_apart ps v bound) (a.value calls bound)) z.shapes) (by (first_apart q.shapes v bound) refl)
     where
-      found : IsThen (last_binds q.shapes s ts) (q.value functions) t
-      found = then_is (last_binds q.shapes s ts) (q.value functions) t e
+      found : IsThen (last_binds whole q.shapes s ts) (q.value functions) t
+      found = then_is (last_binds whole q.shapes s ts) (q.value functions) t e
 
-      inner : IsThen (arm_binds q.shapes s ts) (λ more. where_true (is_certain q.shapes s ts || length more == length ts) (Some more)) found.first
-      inner = then_is (arm_binds q.shapes s ts) (λ more. where_true (is_certain q.shapes s ts || length more == length ts) (Some more)) found.first found.is
+      inner : IsThen (arm_binds q.shapes s ts) (λ more. where_true (whole || (is_certain q.shapes s ts || length more == length ts)) (Some more)) found.first
+      inner = then_is (arm_binds q.shapes s ts) (λ more. where_true (whole || (is_certain q.shapes s ts || length more == length ts)) (Some more)) found.first found.is
 
-      test : ((is_certain q.shapes s ts || length inner.first == length ts) ≡ true) × (Some inner.first ≡ Some found.first)
-      test = where_is (is_certain q.shapes s ts || length inner.first == length ts) (Some inner.first) found.first inner.gives
+      test : ((whole || (is_certain q.shapes s ts || length inner.first == length ts)) ≡ true) × (Some inner.first ≡ Some found.first)
+      test = where_is (whole || (is_certain q.shapes s ts || length inner.first == length ts)) (Some inner.first) found.first inner.gives
 
       typed : q.value functions inner.first ≡ Some t
       typed = ap (q.value functions) (some_same inner.first found.first test.1) ∙ found.gives
@@ -312,11 +328,16 @@ module _ (functions : FunctionTypes) (calls : Functions) (ts : List Ty) (bound :
           let same = same_length ts inner.first (arm_keeps q.shapes s ts inner.first inner.is) (same_number (length inner.first) (length ts) k) in
           z.value functions calls ts bound t give own (ap (q.value functions) (sym same) ∙ typed)
 
+      by_whole : (b : Bool) → whole ≡ b → (b || (is_certain q.shapes s ts || length inner.first == length ts)) ≡ true → first_apart q.shapes v bound ≡ None → HasValueOf (a.value calls bound) t
+      by_whole true k test n = absurd (none_fits q.shapes v bound n (w k))
+      by_whole false k test n = none (is_certain q.shapes s ts) refl test n
+
       by : (o : Option Bindings) → first_apart q.shapes v bound ≡ o → HasValueOf (arm_or calls a.value o (a.value calls bound)) t
-      by None k = none (is_certain q.shapes s ts) refl test.0 k
+      by None k = by_whole whole refl test.0 k
       by (Some more) k = z.value functions calls inner.first more t give (arm_fits q.shapes s ts inner.first v bound h own inner.is more k) typed
 
-  arm_sound : (a : CoreArmDen) (q : CoreArmTyping) (s t : Ty) (v : Value) (rest : Option Value) → ArmSound a q → IsOfType s v → and_then (arm_binds q.shapes s ts) (q.value functions) ≡ Some t → HasValueOf rest t → HasValueOf (arm_or calls a.value (first_apart a.shapes v bound) rest) t
+  arm_sound : (a : CoreArmDen) (q : CoreArmTyping) (s t : Ty) (v : Value) (rest : Option Value) → ArmSound a q → IsOfType s v → and_then (arm_binds q.shapes s ts) (q.value functions) ≡ Some t → (first_apart q.shapes v bound ≡ None → HasValueOf rest t)
+      → HasValueOf (arm_or calls a.value (first_apart a.shapes v bound) rest) t
   arm_sound a q s t v rest z h e behind =
       so _ (arm_or calls a.value (first_apart q.shapes v bound) rest) t (ap (λ ps. arm_or calls a.value (first_apart ps v bound) rest) z.shapes) (by (first_apart q.shapes v bound) refl)
     where
@@ -324,20 +345,22 @@ module _ (functions : FunctionTypes) (calls : Functions) (ts : List Ty) (bound :
       inner = then_is (arm_binds q.shapes s ts) (q.value functions) t e
 
       by : (o : Option Bindings) → first_apart q.shapes v bound ≡ o → HasValueOf (arm_or calls a.value o rest) t
-      by None k = behind
+      by None k = behind k
       by (Some more) k = z.value functions calls inner.first more t give (arm_fits q.shapes s ts inner.first v bound h own inner.is more k) inner.gives
 
-  select_sound : (as' : List CoreArmDen) (qs : List CoreArmTyping) (s t : Ty) (v : Value) → ArmsSound as' qs → IsOfType s v → arms_type functions ts s qs ≡ Some t → HasValueOf (select as' v calls bound) t
-  select_sound [] [] s t v z h e = absurd (cc)
-  select_sound [] (q ∷ qs) s t v z h e = absurd z
-  select_sound (a ∷ as') [] s t v z h e = absurd z
-  select_sound (a ∷ []) (q ∷ []) s t v z h e = last_sound a q s t v z.0 h e
-  select_sound (a ∷ []) (q ∷ r ∷ qs) s t v z h e = absurd z.1
-  select_sound (a ∷ c ∷ as') (q ∷ []) s t v z h e = absurd z.1
-  select_sound (a ∷ c ∷ as') (q ∷ r ∷ qs) s t v z h e =
-      let found = then_is (and_then (arm_binds q.shapes s ts) (q.value functions)) (λ u. if_alike u (arms_type functions ts s (r ∷ qs))) t e in
-      let one = if_alike_is found.first t (arms_type functions ts s (r ∷ qs)) found.gives in
-      arm_sound a q s t v (select (c ∷ as') v calls bound) z.0 h (found.is ∙ ap Some one.0) (select_sound (c ∷ as') (r ∷ qs) s t v z.1 h one.1)
+  select_sound : (whole : Bool) (as' : List CoreArmDen) (qs : List CoreArmTyping) (s t : Ty) (v : Value) → ArmsSound as' qs → IsOfType s v → (whole ≡ true → some_fits (shapes_of qs) v ≡ true) → arms_type whole functions ts s qs ≡ Some t
+      → HasValueOf (select as' v calls bound) t
+  select_sound whole [] [] s t v z h w e = absurd (cc)
+  select_sound whole [] (q ∷ qs) s t v z h w e = absurd z
+  select_sound whole (a ∷ as') [] s t v z h w e = absurd z
+  select_sound whole (a ∷ []) (q ∷ []) s t v z h w e = last_sound whole a q s t v z.0 h w e
+  select_sound whole (a ∷ []) (q ∷ r ∷ qs) s t v z h w e = absurd z.1
+  select_sound whole (a ∷ c ∷ as') (q ∷ []) s t v z h w e = absurd z.1
+  select_sound whole (a ∷ c ∷ as') (q ∷ r ∷ qs) s t v z h w e =
+      let found = then_is (and_then (arm_binds q.shapes s ts) (q.value functions)) (λ u. if_alike u (arms_type whole functions ts s (r ∷ qs))) t e in
+      let one = if_alike_is found.first t (arms_type whole functions ts s (r ∷ qs)) found.gives in
+      arm_sound a q s t v (select (c ∷ as') v calls bound) z.0 h (found.is ∙ ap Some one.0)
+      (λ n. select_sound whole (c ∷ as') (r ∷ qs) s t v z.1 h (λ k. others_fit q.shapes (shapes_of (r ∷ qs)) v bound n (w k)) one.1)
 
   -- ---- loops
 
@@ -457,10 +480,11 @@ layer_sound (CoreExpr-F.Update k l m) functions calls ts bound t give own h = up
 layer_sound (CoreExpr-F.Bind k shape l) functions calls ts bound t give own h = bind_sound functions calls ts bound give own (core_value k.0) (core_value l.0) (core_type k.0) (core_type l.0) shape t k.1 l.1 h
 layer_sound (CoreExpr-F.Choose k l m) functions calls ts bound t give own h = choose_sound functions calls ts bound give own (core_value k.0) (core_value l.0) (core_value m.0) (core_type k.0) (core_type l.0) (core_type m.0) t k.1 l.1 m.1 h
 layer_sound (CoreExpr-F.Select k arms) functions calls ts bound t give own h =
-    let found = then_is (core_type k.0 functions ts) (λ s. arms_type functions ts s (map arm_type (map arm_in arms))) t h in
+    let qs = map arm_type (map arm_in arms) in
+    let found = then_is (core_type k.0 functions ts) (λ s. arms_type (all_fit (shapes_of qs) s) functions ts s qs) t h in
     let v = k.1 functions calls ts bound found.first give own found.is in
     so _ (select (map arm_value (map arm_in arms)) v.value calls bound) t (ap (λ o. and_then o (λ v. select (map arm_value (map arm_in arms)) v calls bound)) v.is)
-    (select_sound functions calls ts bound give own (map arm_value (map arm_in arms)) (map arm_type (map arm_in arms)) found.first t v.value (arms_sound arms) v.typed found.gives)
+    (select_sound functions calls ts bound give own (all_fit (shapes_of qs) found.first) (map arm_value (map arm_in arms)) qs found.first t v.value (arms_sound arms) v.typed (λ e. value_fits (shapes_of qs) found.first v.value e v.typed) found.gives)
 layer_sound (CoreExpr-F.Loop n from index acc k l) functions calls ts bound t give own h = loop_sound functions calls ts bound give own n from index acc (core_value k.0) (core_value l.0) (core_type k.0) (core_type l.0) t k.1 l.1 h
 layer_sound (CoreExpr-F.Call f ks) functions calls ts bound t give own h =
     let found = then_is (types_in (map core_type (map expr_in ks)) functions ts) (functions f) t h in

@@ -8,12 +8,12 @@ use Rattle.xb_value.specs.declared.value.Value.TheViews.{outs-Bits, outs-Tuple, 
 use Rattle.xb_value.proofs.Lemmas.Types.{EachHas}
 use Rattle.xb_value.proofs.Lemmas.Values.{value_induction, value_cases}
 use Rattle.xb_value.proofs.Lemmas.Values as values
-use Rattle.dslx_meaning.specs.Lists.{and_then, pairwise}
+use Rattle.dslx_meaning.specs.Lists.{and_then, or_else, pairwise}
 use Rattle.dslx_core.specs.declared.expr.Shape.{Shape}
 use Rattle.dslx_core.specs.declared.expr.Shape.TheOpen.{Shape-F}
 use Rattle.dslx_core.specs.declared.expr.Shape.TheViews.{roll-Shape}
 use Rattle.dslx_core.specs.declared.expr.Shape.TheFolds.{fold-roll-Shape, ind-Shape, map-Shape}
-use Rattle.dslx_core.specs.CoreValues.{Bindings, TakesApart, bits_like, tuple_like, array_like, like_step, is_like, tuple_values_step, apart_each, shape_step, taken_apart}
+use Rattle.dslx_core.specs.CoreValues.{Bindings, TakesApart, first_apart, bits_like, tuple_like, array_like, like_step, is_like, tuple_values_step, apart_each, shape_step, taken_apart}
 use Rattle.dslx_core_types.proofs.OnOptions.{both, and_both}
 use Rattle.dslx_core_types.proofs.OnTypes.{same_number}
 
@@ -132,3 +132,12 @@ layer_behind (Shape-F.Tuple ks) v bound = tuple_behind (map taken_apart (map sha
 pub binds_behind : (s : Shape) → BindsBehind (taken_apart s)
 binds_behind = ind-Shape (λ s. BindsBehind (taken_apart s)) (λ x y is. subst (λ z. BindsBehind (taken_apart (roll-Shape z))) is
     (subst BindsBehind (sym (fold-roll-Shape TakesApart shape_step (map-Shape Kept Shape shape_of y))) (layer_behind y)))
+
+or_behind : (bound : Bindings) (o p : Option Bindings) → or_else (behind bound o) (behind bound p) ≡ behind bound (or_else o p)
+or_behind bound None p = refl
+or_behind bound (Some more) p = refl
+
+-- so it is with alternatives
+pub first_behind : (ps : List Shape) (v : Value) (bound : Bindings) → first_apart ps v bound ≡ behind bound (first_apart ps v [])
+first_behind [] v bound = refl
+first_behind (p ∷ ps) v bound = ap₂ or_else (binds_behind p v bound) (first_behind ps v bound) ∙ or_behind bound (taken_apart p v []) (first_apart ps v [])

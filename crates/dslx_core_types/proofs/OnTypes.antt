@@ -5,6 +5,7 @@ use Rattle.std.proofs.lemmas.Bool.Decides.{nat_tests}
 use Rattle.xb_value.specs.declared.ty.Ty.{Ty, Bits, Tuple, Array, out-Ty}
 use Rattle.xb_value.specs.declared.ty.Ty.TheViews.{outs-Bits, outs-Tuple, outs-Array}
 use Rattle.xb_value.proofs.Lemmas.Types.{EachHas, ty_induction, fold-Bits, fold-Tuple, fold-Array}
+use Rattle.dslx_core_types.proofs.OnOptions.{and_both, where_so}
 use Rattle.dslx_meaning.specs.Lists.{where_true, pairwise}
 use Rattle.dslx_core.specs.CoreValues.{is_width}
 use Rattle.dslx_core_types.specs.Typing.{bits_alike, tuple_alike, array_alike, same_type_step, is_type, width_step, bits_width, parts_step, parts_of_tuple, Elements, elements, elements_step, elements_of, if_alike}
@@ -52,6 +53,23 @@ one_type = ty_induction IsOne
     (λ ts each u h. tuple_one ts each u (sym (ap (λ (f : Ty → Bool). f u) (fold-Tuple (Ty → Bool) same_type_step ts)) ∙ h))
     (λ t n one u h. array_one t n one u (sym (ap (λ (f : Ty → Bool). f u) (fold-Array (Ty → Bool) same_type_step t n)) ∙ h))
 
+same_count : (n : ℕ) → (n == n) ≡ true
+same_count n = grind (arith, nat_tests)
+
+each_itself : (ts : List Ty) → EachHas (λ t. is_type t t ≡ true) ts → pairwise (λ (p : Ty → Bool) u. p u) (map is_type ts) ts ≡ true
+each_itself [] each = refl
+each_itself (t ∷ ts) each = and_both (is_type t t) (pairwise (λ (p : Ty → Bool) u. p u) (map is_type ts) ts) each.0 (each_itself ts each.1)
+
+-- a type is like itself
+pub type_itself : (t : Ty) → is_type t t ≡ true
+type_itself = ty_induction (λ t. is_type t t ≡ true)
+    (λ w. ap (λ (f : Ty → Bool). f (Bits w)) (fold-Bits (Ty → Bool) same_type_step w) ∙ (ap (bits_alike w) (outs-Bits w) ∙ same_count w))
+    (λ ts each. ap (λ (f : Ty → Bool). f (Tuple ts)) (fold-Tuple (Ty → Bool) same_type_step ts) ∙ (ap (tuple_alike (map is_type ts)) (outs-Tuple ts) ∙ each_itself ts each))
+    (λ t n one. ap (λ (f : Ty → Bool). f (Array t n)) (fold-Array (Ty → Bool) same_type_step t n) ∙ (ap (array_alike (is_type t) n) (outs-Array t n) ∙ and_both (is_type t t) (n == n) one (same_count n)))
+
+pub alike_itself : (t : Ty) → if_alike t (Some t) ≡ Some t
+alike_itself t = where_so (is_type t t) (Some t) (type_itself t)
+
 -- what is of this type is so
 pub if_alike_is : (t s : Ty) (o : Option Ty) → if_alike t o ≡ Some s → (t ≡ s) × (o ≡ Some s)
 if_alike_is t s o h =
@@ -61,6 +79,15 @@ if_alike_is t s o h =
     (same, found.is ∙ ap Some (sym (one_type t found.first test.0) ∙ same))
 
 -- ---- types of a form
+
+pub width_of_bits : (w : ℕ) → is_width w ≡ true → bits_width (Bits w) ≡ Some w
+width_of_bits w h = ap width_step (outs-Bits w) ∙ where_so (is_width w) (Some w) h
+
+pub parts_of : (ts : List Ty) → parts_of_tuple (Tuple ts) ≡ Some ts
+parts_of ts = ap parts_step (outs-Tuple ts)
+
+pub elements_of_array : (t : Ty) (n : ℕ) → nat_lt 0 n ≡ true → elements_of (Array t n) ≡ Some (elements t n)
+elements_of_array t n h = ap elements_step (outs-Array t n) ∙ where_so (nat_lt 0 n) (Some (elements t n)) h
 
 pub record IsBitsType (t : Ty) (w : ℕ) : Type 0 where
   pub is : t ≡ Bits w

@@ -2,3 +2,5 @@
 pub mod Typing
 -- what they say of values
 pub mod Sound
+-- checked texts all of which have types
+pub mod Designs

@@ -1,13 +1,15 @@
 -- The type of an expression of a checked text, by the types of what is bound and by what the functions give.
 --
 -- An expression with a type has a value of it, whatever values of their types are bound: no slice leaves its number, no pattern of a
--- binding or a loop fails, and each call is of a function before its caller.
-use Rattle.std.specs.Prelude.{ℕ, suc, ◌^◌, List, ◌∷◌, ◌++◌, ◌+◌, ◌==◌, ◌&&◌, ◌||◌, nat_lt, nat_le, map, Bool, true, false, Option, Some, None, length, slice_get, if◌then◌else◌, []}
+-- binding or a loop fails, some arm of a choice fits or its last one binds nothing, and each call is of a function before its caller.
+use Rattle.std.specs.Prelude.{ℕ, zero, suc, ◌^◌, List, ◌∷◌, ◌++◌, ◌+◌, ◌==◌, ◌&&◌, ◌||◌, nat_lt, nat_le, map, Bool, true, false, Option, Some, None, length, slice_get, if◌then◌else◌, []}
 use Rattle.xb_bits.specs.Word.{Word}
 use Rattle.xb_value.specs.declared.ty.Ty.{Ty, Bits, Tuple, Array, out-Ty, fold-Ty}
 use Rattle.xb_value.specs.declared.ty.Ty.TheOpen.{Ty-F}
 use Rattle.xb_value.specs.declared.value.Value.{Value, fold-Value}
 use Rattle.xb_value.specs.declared.value.Value.TheOpen.{Value-F}
+use Rattle.xb_value.specs.Unflat.{unflat_of}
+use Rattle.xb_value.specs.Width.{width_of}
 use Rattle.dslx_meaning.specs.Lists.{all_some, and_then, with_both, where_true, pairwise}
 use Rattle.dslx_core.specs.declared.expr.CoreUnary.{CoreUnary}
 use Rattle.dslx_core.specs.declared.expr.CoreUnary.TheVariants as u
@@ -18,7 +20,7 @@ use Rattle.dslx_core.specs.declared.expr.Shape.TheOpen.{Shape-F}
 use Rattle.dslx_core.specs.declared.expr.CoreExpr.{CoreExpr, fold-CoreExpr}
 use Rattle.dslx_core.specs.declared.expr.CoreExpr.TheOpen.{CoreExpr-F}
 use Rattle.dslx_core.specs.declared.expr.Arm.{Arm-F}
-use Rattle.dslx_core.specs.CoreValues.{is_width}
+use Rattle.dslx_core.specs.CoreValues.{Bindings, first_apart, is_width}
 
 -- ---- types
 
@@ -167,6 +169,26 @@ arm_binds [] t bound = Some bound
 arm_binds (p ∷ []) t bound = binds_types false p t bound
 arm_binds (p ∷ q ∷ ps) t bound = where_true (each_binds_none (p ∷ q ∷ ps) t bound) (Some bound)
 
+-- ---- arms that fit all values of a small type
+
+abbrev pub is_fit : Option Bindings → Bool
+is_fit None = false
+is_fit (Some bound) = true
+
+-- some arm fits the value
+abbrev pub some_fits : List (List Shape) → Value → Bool
+some_fits [] v = false
+some_fits (ps ∷ arms) v = is_fit (first_apart ps v []) || some_fits arms v
+
+-- each value of the type whose flat number is below this one
+abbrev pub each_fits : List (List Shape) → Ty → ℕ → Bool
+each_fits arms t zero = true
+each_fits arms t (suc n) = some_fits arms (unflat_of t n) && each_fits arms t n
+
+-- the type has at most 8 bits, and some arm fits each of its values
+abbrev pub all_fit : List (List Shape) → Ty → Bool
+all_fit arms t = nat_le (width_of t) 8 && each_fits arms t (2 ^ width_of t)
+
 -- ---- expressions
 
 -- what the functions of these numbers give for operands of these types
@@ -194,14 +216,18 @@ abbrev pub is_certain : List Shape → Ty → List Ty → Bool
 is_certain [] t bound = false
 is_certain (p ∷ ps) t bound = is_some (binds_types true p t bound) || is_certain ps t bound
 
--- the last arm also stands where no arm fits, and then binds nothing: so it always fits, or never binds
-abbrev pub last_binds : List Shape → BindsTypes
-last_binds shapes t bound = and_then (arm_binds shapes t bound) (λ more. where_true (is_certain shapes t bound || length more == length bound) (Some more))
+-- the last arm also stands where no arm fits, and then binds nothing: so it always fits, or never binds, or each value fits some arm
+abbrev pub last_binds : Bool → List Shape → BindsTypes
+last_binds whole shapes t bound = and_then (arm_binds shapes t bound) (λ more. where_true (whole || (is_certain shapes t bound || length more == length bound)) (Some more))
 
-abbrev pub arms_type : FunctionTypes → List Ty → Ty → List CoreArmTyping → Option Ty
-arms_type calls bound t [] = None
-arms_type calls bound t (a ∷ []) = and_then (last_binds a.shapes t bound) (a.value calls)
-arms_type calls bound t (a ∷ c ∷ as') = and_then (and_then (arm_binds a.shapes t bound) (a.value calls)) (λ s. if_alike s (arms_type calls bound t (c ∷ as')))
+-- `whole` says that each value fits some arm
+abbrev pub arms_type : Bool → FunctionTypes → List Ty → Ty → List CoreArmTyping → Option Ty
+arms_type whole calls bound t [] = None
+arms_type whole calls bound t (a ∷ []) = and_then (last_binds whole a.shapes t bound) (a.value calls)
+arms_type whole calls bound t (a ∷ c ∷ as') = and_then (and_then (arm_binds a.shapes t bound) (a.value calls)) (λ s. if_alike s (arms_type whole calls bound t (c ∷ as')))
+
+abbrev pub shapes_of : List CoreArmTyping → List (List Shape)
+shapes_of arms = map (λ (a : CoreArmTyping). a.shapes) arms
 
 abbrev pub typing_step : CoreExpr-F Typing CoreArmTyping → Typing
 typing_step (CoreExpr-F.Literal v) calls bound = value_type v
@@ -220,7 +246,7 @@ typing_step (CoreExpr-F.Update e i v) calls bound =
 typing_step (CoreExpr-F.Bind e shape body) calls bound = and_then (e calls bound) (λ t. and_then (binds_types true shape t bound) (body calls))
 typing_step (CoreExpr-F.Choose c a d) calls bound =
     and_then (width_in c calls bound) (λ w. where_true (w == 1) (and_then (a calls bound) (λ t. if_alike t (d calls bound))))
-typing_step (CoreExpr-F.Select e arms) calls bound = and_then (e calls bound) (λ t. arms_type calls bound t arms)
+typing_step (CoreExpr-F.Select e arms) calls bound = and_then (e calls bound) (λ t. arms_type (all_fit (shapes_of arms) t) calls bound t arms)
 typing_step (CoreExpr-F.Loop n from index acc body start) calls bound =
     where_true (is_sound_word from)
     (and_then (start calls bound) (λ t. and_then (binds_types true index (Bits from.width) bound) (λ inner. and_then (binds_types true acc t inner) (λ both. if_alike t (body calls both)))))

@@ -28,7 +28,7 @@ width_at (Some kind) = kind.width
 abbrev width_of_level : DslxType-F DslxType → ℕ
 width_of_level l = width_at (bits_step l)
 
-not_passed : (at w : ℕ) → passes what.Width 128 at w ≡ [] → nat_le w 128 ≡ true
+pub not_passed : (at w : ℕ) → passes what.Width 128 at w ≡ [] → nat_le w 128 ≡ true
 not_passed at w e = by_test (nat_lt 128 w) refl e
   where
     by_test : (b : Bool) → nat_lt 128 w ≡ b → (if b then Passed at (record { what = what.Width; found = found_number w; most = 128 }) ∷ [] else []) ≡ [] → nat_le w 128 ≡ true

@@ -100,12 +100,12 @@ typed_rest None f = refl
 typed_rest (Some r) f = refl
 
 -- the type that a `let` gives its pattern
-pub bound_there : (here : Instance → Bool) (context : TypeEnv) (env : Env) (scope : CoreScope) → IsWellTypedEnv context env → ScopeMatchesEnv here context scope → (span : Span) (written : Option TypePair) (f : Option TypeDen) → TypeHasDenIf written f → (t : DslxType)
+pub annotated_there : (here : Instance → Bool) (context : TypeEnv) (env : Env) (scope : CoreScope) → IsWellTypedEnv context env → ScopeMatchesEnv here context scope → (span : Span) (written : Option TypePair) (f : Option TypeDen) → TypeHasDenIf written f → (t : DslxType)
     → annotation_faults span (written_typing context written) (Some t) ≡ [] → list_all here (annotation_reached (written_typing context written)) ≡ true → bound_type (written_typing context written) (Some t) ≡ Some t
-bound_there here context env scope h at span None None k t e r = refl
-bound_there here context env scope h at span None (Some f) k t e r = absurd k
-bound_there here context env scope h at span (Some p) None k t e r = absurd k
-bound_there here context env scope h at span (Some p) (Some f) k t e r =
+annotated_there here context env scope h at span None None k t e r = refl
+annotated_there here context env scope h at span None (Some f) k t e r = absurd k
+annotated_there here context env scope h at span (Some p) None k t e r = absurd k
+annotated_there here context env scope h at span (Some p) (Some f) k t e r =
     let j = p.1 context in
     let q = none_in j.faults (wanted_faults span j.ty (Some t)) e in
     let w = k.known context env h (well_typed_there here context scope j at (record { faults = q.0; reached = r })) in
@@ -123,7 +123,7 @@ lower_total_let span e x written f p l m s st pl pg = record {
       let q = none_in_three value.faults (annotation_faults span j value.ty) bound.faults clean.faults in
       let r = all_in_three here value.reached (annotation_reached j) bound.reached clean.reached in
       let g = within_lowers_to here context env scope e x s h at (record { faults = q.0; reached = r.0 }) in
-      let own = bound_there here context env scope h at span written f st g.expr.ty (ap (annotation_faults span j) (sym g.typed) ∙ q.1) r.1 in
+      let own = annotated_there here context env scope h at span written f st g.expr.ty (ap (annotation_faults span j) (sym g.typed) ∙ q.1) r.1 in
       let typed : bound_type j value.ty ≡ Some g.expr.ty = ap (bound_type j) g.typed ∙ own in
       let seen : bound ≡ pattern_alone false context (Some g.expr.ty) p = ap (λ o. pattern_alone false context o p) typed in
       let one = pl.lowers here false context g.expr.ty [] context.locals env scope scope h at at g.declared (record { faults = ap (λ (b : PatternSeen). b.faults) (sym seen) ∙ q.2; reached = ap (λ (b : PatternSeen). list_all here b.reached) (sym seen) ∙ r.2 }) in

@@ -79,18 +79,18 @@ parametric_args_are_well_typed_there known complete owner before so_far (p ∷ p
 -- ---- arguments
 
 -- the arguments, each behind those before it
-record ArgumentsExist (here : Instance → Bool) (context : TypeEnv) (fs : List Field) (locals : List Typed) (core : BodyEnv) (scope : CoreScope) : Type 0 where
-  types : List DslxType
-  are : map (λ (f : Field). lower_type_of_text f.ty (outer_scope core)) fs ≡ map Some types
-  typing : map (λ (f : Field). (typing_of_inner context f.ty).ty) fs ≡ map Some types
-  inner : list_all (λ t. not (is_unit t)) types ≡ true
-  behind : CoreScope
-  elaborated : arguments_in_scope fs types scope ≡ Some behind
-  stands : ScopeMatchesEnv here (with_typed context (arguments_typed context locals fs)) behind
-  env : Env
-  typed : IsWellTypedEnv (with_typed context (arguments_typed context locals fs)) env
+pub record ArgumentsExist (here : Instance → Bool) (context : TypeEnv) (fs : List Field) (locals : List Typed) (core : BodyEnv) (scope : CoreScope) : Type 0 where
+  pub types : List DslxType
+  pub are : map (λ (f : Field). lower_type_of_text f.ty (outer_scope core)) fs ≡ map Some types
+  pub typing : map (λ (f : Field). (typing_of_inner context f.ty).ty) fs ≡ map Some types
+  pub inner : list_all (λ t. not (is_unit t)) types ≡ true
+  pub behind : CoreScope
+  pub elaborated : arguments_in_scope fs types scope ≡ Some behind
+  pub stands : ScopeMatchesEnv here (with_typed context (arguments_typed context locals fs)) behind
+  pub env : Env
+  pub typed : IsWellTypedEnv (with_typed context (arguments_typed context locals fs)) env
 
-arguments_stand : (here : Instance → Bool) (context : TypeEnv) (outer : Env) (core : BodyEnv) → IsWellTypedEnv context outer → ScopeMatchesEnv here context (outer_scope core) → (before : List (List ℕ)) (fs : List Field)
+pub arguments_stand : (here : Instance → Bool) (context : TypeEnv) (outer : Env) (core : BodyEnv) → IsWellTypedEnv context outer → ScopeMatchesEnv here context (outer_scope core) → (before : List (List ℕ)) (fs : List Field)
     → (arguments_found context before fs).faults ≡ [] → list_all here (arguments_found context before fs).reached ≡ true
     → (locals : List Typed) (env : Env) (scope : CoreScope) → IsWellTypedEnv (with_typed context locals) env → ScopeMatchesEnv here (with_typed context locals) scope → ArgumentsExist here context fs locals core scope
 arguments_stand here context outer core ho ao before [] f r locals env scope h at = record { types = []; are = refl; typing = refl; inner = refl; behind = scope; elaborated = refl; stands = at; env = env; typed = h }

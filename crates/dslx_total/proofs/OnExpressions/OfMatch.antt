@@ -52,7 +52,7 @@ EachArmLowers (a ∷ as') [] = ⊥
 
 -- ---- alternatives
 
-one_clean : (here : Instance → Bool) (context : TypeEnv) (t : Option DslxType) (p : PatternPair) (ps : List PatternPair)
+pub one_clean : (here : Instance → Bool) (context : TypeEnv) (t : Option DslxType) (p : PatternPair) (ps : List PatternPair)
     → IsClean here (alternatives_seen context t (p ∷ ps)).faults (alternatives_seen context t (p ∷ ps)).reached
     → IsClean here (one_alternative context t p (alternatives_seen context t ps)).faults (one_alternative context t p (alternatives_seen context t ps)).reached × IsClean here (alternatives_seen context t ps).faults (alternatives_seen context t ps).reached
 one_clean here context t p ps clean =
@@ -62,7 +62,7 @@ one_clean here context t p ps clean =
     let r = all_in here first.reached rest.reached clean.reached in
     (record { faults = q.0; reached = r.0 }, record { faults = q.1; reached = r.1 })
 
-alternatives_known : (here : Instance → Bool) (context : TypeEnv) (env : Env) (scope : CoreScope) → IsWellTypedEnv context env → ScopeMatchesEnv here context scope → (t : Option DslxType) (ps : List PatternPair) (ms : List PatternDen)
+pub alternatives_known : (here : Instance → Bool) (context : TypeEnv) (env : Env) (scope : CoreScope) → IsWellTypedEnv context env → ScopeMatchesEnv here context scope → (t : Option DslxType) (ps : List PatternPair) (ms : List PatternDen)
     → EachPatternGives ps ms → IsClean here (alternatives_seen context t ps).faults (alternatives_seen context t ps).reached → (alternatives_seen context t ps).is_known ≡ true
 alternatives_known here context env scope h at t [] ms k clean = refl
 alternatives_known here context env scope h at t (p ∷ ps) [] k clean = absurd k
@@ -73,7 +73,7 @@ alternatives_known here context env scope h at t (p ∷ ps) (m ∷ ms) k clean =
     λ i. k.0.known true context t [] (alternatives_seen context t ps).locals env h well_typed i && alternatives_known here context env scope h at t ps ms k.1 q.1 i
 
 -- none of them binds a name
-none_binds : (context : TypeEnv) (t : Option DslxType) (ps : List PatternPair) (ls : List PatternLowering) → EachPatternLowers ps ls → (alternatives_seen context t ps).binds ≡ false
+pub none_binds : (context : TypeEnv) (t : Option DslxType) (ps : List PatternPair) (ls : List PatternLowering) → EachPatternLowers ps ls → (alternatives_seen context t ps).binds ≡ false
     → list_all context.known.items.is_constant (names_of_all ls) ≡ true
 none_binds context t [] [] k e = refl
 none_binds context t [] (l ∷ ls) k e = absurd k
@@ -84,7 +84,7 @@ none_binds context t (p ∷ ps) (l ∷ ls) k e =
     let q = or_false (not (is_empty first.names)) rest.binds e in
     list_of context.known.items.is_constant l.names (names_of_all ls) (k.0.unbound true context t [] rest.locals (not_false (is_empty first.names) q.0)).0 (none_binds context t ps ls k.1 q.1)
 
-plain_locals : (context : TypeEnv) (t : Option DslxType) (ps : List PatternPair) (ls : List PatternLowering) → EachPatternLowers ps ls → list_all context.known.items.is_constant (names_of_all ls) ≡ true
+pub plain_locals : (context : TypeEnv) (t : Option DslxType) (ps : List PatternPair) (ls : List PatternLowering) → EachPatternLowers ps ls → list_all context.known.items.is_constant (names_of_all ls) ≡ true
     → (alternatives_seen context t ps).locals ≡ context.locals
 plain_locals context t [] ls k e = refl
 plain_locals context t (p ∷ ps) [] k e = absurd k

@@ -44,7 +44,7 @@ use Rattle.dslx_meaning.specs.Types.{unit_type}
 use Rattle.dslx_meaning.specs.Meaning.{TypeDen, written_type}
 use Rattle.dslx_meaning.specs.Lists.{and_then}
 use Rattle.dslx_total.proofs.OnExpressions.Parts.{alone_lowers_to}
-use Rattle.dslx_total.proofs.OnExpressions.OfControl.{bound_there, stands_behind, typed_behind}
+use Rattle.dslx_total.proofs.OnExpressions.OfControl.{annotated_there, stands_behind, typed_behind}
 use Rattle.dslx_total.proofs.OnExpressions.Inhabited.{some_value}
 use Rattle.dslx_core.specs.Lowering.Trees.{lower_expression}
 use Rattle.dslx_core.specs.Lowering.Steps.{LoweredSteps, StepsLowering, lower_act, binds_nothing, statement_steps, statements_steps}
@@ -202,7 +202,7 @@ let_there e written f st text = record {
       let q = none_in_three value.faults (annotation_faults span j value.ty) bound.faults clean.faults in
       let r = all_in_three here value.reached (annotation_reached j) bound.reached clean.reached in
       let a = act_there here context env outer scope ends h at members e (record { faults = q.0; reached = r.0 }) in
-      let own = bound_there here context env scope h at span written f st a.own (ap (annotation_faults span j) (sym a.typed) ∙ q.1) r.1 in
+      let own = annotated_there here context env scope h at span written f st a.own (ap (annotation_faults span j) (sym a.typed) ∙ q.1) r.1 in
       let typed : bound_type j value.ty ≡ Some a.own = ap (bound_type j) a.typed ∙ own in
       let same : bound ≡ pattern_alone false context (Some a.own) p = ap (λ o. pattern_alone false context o p) typed in
       let one = (pattern_part text).lowers here false context a.own [] context.locals env scope scope h at at a.declared (record { faults = ap (λ (b : PatternSeen). b.faults) (sym same) ∙ q.2; reached = ap (λ (b : PatternSeen). list_all here b.reached) (sym same) ∙ r.2 }) in

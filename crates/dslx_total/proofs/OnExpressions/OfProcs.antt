@@ -81,7 +81,7 @@ typed_with context members env h = record {
   known = h.known;
 }
 
-stands_with : (here : Instance → Bool) (context : TypeEnv) (members : List ChannelEnd) (scope : CoreScope) → ScopeMatchesEnv here context scope → ScopeMatchesEnv here (record context { members = members }) scope
+pub stands_with : (here : Instance → Bool) (context : TypeEnv) (members : List ChannelEnd) (scope : CoreScope) → ScopeMatchesEnv here context scope → ScopeMatchesEnv here (record context { members = members }) scope
 stands_with here context members scope at =
     record { items = at.items; parametric_args = at.parametric_args; locals = at.locals; sound = at.sound; calls = at.calls; widths = at.widths; constants = at.constants }
 

@@ -73,7 +73,7 @@ TableHas known (i ∷ is) (c ∷ cs) = IsInTable known i c × TableHas known is 
 TableHas known [] (c ∷ cs) = ⊥
 TableHas known (i ∷ is) [] = ⊥
 
-one_more : (known : GlobalEnv) (is : List Instantiated) (cs : List CoreInstance) (i : Instantiated) (c : CoreInstance) → TableHas known is cs → IsInTable known i c → TableHas known (is ++ i ∷ []) (cs ++ c ∷ [])
+pub one_more : (known : GlobalEnv) (is : List Instantiated) (cs : List CoreInstance) (i : Instantiated) (c : CoreInstance) → TableHas known is cs → IsInTable known i c → TableHas known (is ++ i ∷ []) (cs ++ c ∷ [])
 one_more known [] [] i c h k = (k, tt)
 one_more known [] (d ∷ ds) i c h k = absurd h
 one_more known (j ∷ js) [] i c h k = absurd h
@@ -155,7 +155,7 @@ args_many items inferred so_far (p ∷ ps) [] vs e =
     by_value None q rest = none_some vs q
     by_value (Some v) q rest = put_many v (all_parametric_args items inferred (with_number so_far p v) ps []) vs (length ps) (rest v) q
 
-calls_known : (known : GlobalEnv) → (is : List Instantiated) (cs : List CoreInstance) → TableHas known is cs → (here : Instance → Bool) → AreThere here known is → (parametric_args : List Given)
+pub calls_known : (known : GlobalEnv) → (is : List Instantiated) (cs : List CoreInstance) → TableHas known is cs → (here : Instance → Bool) → AreThere here known is → (parametric_args : List Given)
     → CallsAreKnown here known (record { items = known.items; parametric_args = parametric_args; callee = callee_in known.whole known.items cs })
 calls_known known is cs table here among outer name f given parametric_args types named found own reached fits =
     let same = function_named name known.whole.items f named in
@@ -180,7 +180,7 @@ calls_known known is cs table here among outer name f given parametric_args type
 
 -- ---- all instances
 
-next_there : (known : GlobalEnv) → CanLower known → (is : List Instantiated) (cs : List CoreInstance) → TableHas known is cs → (i : Instantiated) → ReachesThese known is i
+pub next_there : (known : GlobalEnv) → CanLower known → (is : List Instantiated) (cs : List CoreInstance) → TableHas known is cs → (i : Instantiated) → ReachesThese known is i
     → (c : CoreInstance) × (next_instance known.whole known.items cs i ≡ Some c) × IsInTable known i c
 next_there known can is cs table i r =
     let core = instance_globals known.whole known.items cs r.function i.parametric_args in
