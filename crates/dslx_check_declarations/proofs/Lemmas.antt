@@ -1,0 +1,10 @@
+-- lists whose elements have names
+pub mod Listed
+-- ends of channels
+pub mod Ends
+-- walks over items
+pub mod Items
+-- what is in scope behind parametrics
+pub mod Parts
+-- items by their numbers
+pub mod Told

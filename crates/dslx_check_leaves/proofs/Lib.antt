@@ -1,0 +1,4 @@
+-- lemmas for other crates
+pub mod Lemmas
+-- numbers without types
+pub mod Untyped
