@@ -1,0 +1,2 @@
+-- what instances start from
+pub mod Starts

@@ -1,0 +1,8 @@
+//! What is known of a text that is checked, as more and more of it is judged.
+#![tactic(auto)]
+
+pub mod laws;
+mod learn;
+mod places;
+
+pub use learn::{learn_instance, learn_item, learn_part};
