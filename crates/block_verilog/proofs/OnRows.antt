@@ -62,7 +62,7 @@ use Rattle.block_module.specs.Queues.{registers_at, all_registers, all_next, fif
 use Rattle.block_module.specs.Widths.{CarryWords, IsInputRow, AreInputRows}
 use Rattle.block_module.proofs.Lemmas.Fifos.{fifo_there, fifo_taken, fifos_taken, fifos_reset, all_next_long}
 use Rattle.block_module.proofs.Lemmas.Outside.{ports_given, ports_driven}
-use Rattle.block_module.proofs.Lemmas.Rows.{NetlistsDrive, IsNetlistOf, netlist_drives}
+use Rattle.block_module.proofs.Lemmas.Rows.{NetlistsDrive, NothingIsAsserted, IsNetlistOf, netlist_drives}
 use Rattle.block_module.proofs.Lemmas.Taken.{SetsAreTaken, taken_both, reset_given, clocks_taken, resets_taken}
 use Rattle.block_verilog.specs.Modules.{IsMadeOfParts}
 use Rattle.block_verilog.specs.Parts.{BlockParts, IsBlockDriven, block_nets, block_registers, block_nexts, channel_nets, fifo_or, registers_of, nexts_of, ArePutFrom}
@@ -367,8 +367,8 @@ module _ (made_law : MadeLaw) (partners_law : PartnersLaw) (asked_law : AskedAli
       let drivers = each_back (λ (a : Assignment). v a.target.0 ≡ expr_value v a.value) (assigned made.wires.first made.wires.wires.items) (port_drivers ir.channels (ports_from 2 ir.channels) made.parts.sides) (subst (HasDrivers v) made.assembled.assignments now.wires) in
       subst (PortDriven v channel.ends port) (sym (got made.parts.sides c no_ends side.0 side.1)) (ports_driven v ir.channels (ports_from 2 ir.channels) made.parts.sides drivers c channel port side.0 there at side.1)
 
-  pub module_drives : NetlistsDrive → IsBlock block → DrivesBlock m ir.channels block
-  module_drives law legal = netlist_drives law m ir.channels block nets run legal (record {
+  pub module_drives : NetlistsDrive → NothingIsAsserted → IsBlock block → DrivesBlock m ir.channels block
+  module_drives law nothing_law legal = netlist_drives law nothing_law m ir.channels block nets run legal (record {
     row = λ held v row fits carried now. row_made held v row fits carried now;
     next = λ held v next row row' fits fits' carried now later. next_made held v next row row' now later;
     ports = side_driven;

@@ -15,6 +15,7 @@ pub fn modules_drive_their_blocks()
 {
     block_schedule::laws::scheduled_packages_are_blocks();
     block_netlist::holding::netlists_drive_what_their_blocks_do();
+    block_netlist::holding::ends_show_the_machines();
     block_pipelines::laws::pipelines_are_made();
     block_pipelines::laws::registers_go_on_as_they_are_set();
     block_module::widths::signals_carry_words();

@@ -1,6 +1,6 @@
 -- A module whose wires and registers are a block's in each row drives what the block does.
-use Rattle.std.proofs.Common.{◌≡◌, ℕ, zero, suc, ◌<◌, ◌≤◌, Bool, false, List, [], ◌∷◌, ◌++◌, length, map, refl, sym, ap, ap₂, ◌∙◌, subst, ◌⊎◌, inl, inr, arith}
-use Rattle.std.specs.Prelude.{◌==◌, if◌then◌else◌, slice_get, is_some, Option, Some}
+use Rattle.std.proofs.Common.{◌≡◌, ℕ, zero, suc, ◌<◌, ◌≤◌, Bool, true, false, List, [], ◌∷◌, ◌++◌, length, map, refl, sym, ap, ap₂, ◌∙◌, subst, ◌⊎◌, inl, inr, arith}
+use Rattle.std.specs.Prelude.{◌==◌, if◌then◌else◌, not, slice_get, is_some, Option, Some, None}
 use Rattle.std.proofs.lemmas.Bool.{cases_lt, eq-eqb, ne_eqb}
 use Rattle.std.proofs.lemmas.List.{length-append}
 use Rattle.xb_bits.specs.Word.{Word}
@@ -15,11 +15,16 @@ use Rattle.vlog_tree.specs.Meaning.{IsNow, registers_next}
 use Rattle.vlog_tree.specs.Rows.{Runs, start, cycle, given, zeros}
 use Rattle.vlog_tree.specs.Value.{Values, bit, atom_value}
 use Rattle.vlog_tree.proofs.Lemmas.Settling.{each_prefix, each_back}
-use Rattle.block_build.specs.Block.{Block, IsBlock}
-use Rattle.block_build.specs.Rows.{State, InputRow, HasReset, state_after, is_ready, offers}
+use Rattle.net_core.specs.declared.net.Site.{Site}
+use Rattle.block_build.specs.Block.{Block, IsBlock, receiver_of}
+use Rattle.block_build.specs.Rows.{State, InputRow, HasReset, state_after, sender_of, is_ready, offers}
 use Rattle.block_netlist.specs.declared.fifos.ChannelEnds.{ChannelEnds}
-use Rattle.block_netlist.specs.Blocks.{BlockNets, BlockRow, BlockNext, ChannelShown, rows_before}
+use Rattle.block_netlist.specs.Blocks.{BlockNets, ChannelNets, PipelineNets, SomeMade, ReaderMade, WriterMade, BlockMade, BlockRow, BlockNext, ChannelShown, rows_before}
+use Rattle.block_netlist.specs.Ends.{some_wires, some_net, all_sites, end_requests}
+use Rattle.block_netlist.specs.Holding.{PipelineMade}
 use Rattle.block_netlist.specs.Order.{CarriesWord}
+use Rattle.block_netlist.specs.Stages.{StageNets, AreStages}
+use Rattle.block_netlist.specs.Wires.{AreWired}
 use Rattle.vlog_tree.specs.Signals.{declared_widths}
 use Rattle.block_module.specs.Drives.{ChannelDriven, DrivesBlock}
 use Rattle.block_module.specs.Outside.{input_row, PortDriven}
@@ -34,6 +39,13 @@ NetlistsDrive =
     → HasReset (rows_before row n) → (c : ℕ)
     → let state = state_after block power (rows_before row n) in
     ChannelShown (v n) (nets.ends c) (is_ready block state (row n) c) (offers block state (row n) c)
+
+-- the law of stages in reset
+abbrev pub NothingIsAsserted : Type 0
+NothingIsAsserted =
+    (v : Values) (run : Atom) (stages : List StageNets) → AreStages v run stages → atom_value v run ≡ bit false
+    → (sites : List Site) (chan : ℕ) (sends : Bool) (sent : ℕ → Atom) (k : ℕ) (zeros : Atom) → let requests = end_requests sites chan sends sent 0 (all_sites stages) in
+    AreWired v k (some_wires k zeros requests) → atom_value v zeros ≡ bit false → atom_value v (some_net k zeros requests) ≡ bit false
 
 -- what is to be shown of a module: it has the block's wires in each row, its registers go on as the block's, and its ports are driven
 pub record IsNetlistOf (m : VModule) (channels : List Channel) (block : Block) (nets : BlockNets) (run : Atom) : Type 0 where
@@ -161,10 +173,44 @@ driven_by v ends.Input port end ready offer driven r o w = driven ∙ r
 driven_by v ends.Output port end ready offer driven r o w = (driven.1 ∙ o, λ x e. driven.0 ∙ w x e)
 driven_by v (ends.Inner depth) port end ready offer driven r o w = tt
 
-pub netlist_drives : NetlistsDrive → (m : VModule) (channels : List Channel) (block : Block) (nets : BlockNets) (run : Atom) → IsBlock block → IsNetlistOf m channels block nets run → DrivesBlock m channels block
-netlist_drives law m channels block nets run legal is = record {
+-- ---- in reset
+
+-- by these values nothing stands at a channel's sides
+record NothingShown (v : Values) (end : ChannelNets) : Type 0 where
+  pub ready : atom_value v end.ready ≡ bit false
+  pub offered : atom_value v end.offered ≡ bit false
+
+some_in_reset : NothingIsAsserted → (v : Values) (run : Atom) (channels : List Channel) (one : PipelineNets) → PipelineMade v run channels one.proc one.nets one.stage one.carried one.pipeline one.stages → atom_value v run ≡ bit false
+    → (chan : ℕ) (sends : Bool) (signal : Atom) → SomeMade v one chan sends signal → atom_value v signal ≡ bit false
+some_in_reset law v run channels one made off chan sends signal some =
+    ap (atom_value v) some.is ∙ law v run one.stages made.control.now off one.pipeline.proc.behavior.sites chan sends one.nets.sent some.from some.zeros some.wired some.none
+
+nothing_in_reset : NothingIsAsserted → (v : Values) (run : Atom) (block : Block) (nets : BlockNets) → BlockMade v run block nets → atom_value v run ≡ bit false → (c : ℕ) → NothingShown v (nets.ends c)
+nothing_in_reset law v run block nets made off c = record {
+  ready = at_reader (slice_get nets.pipelines (receiver_of block c)) refl (made.readers c);
+  offered = at_writer (slice_get nets.pipelines (sender_of block c)) refl (made.writers c);
+}
+  where
+    at_reader : (o : Option PipelineNets) → slice_get nets.pipelines (receiver_of block c) ≡ o → ReaderMade v c (nets.ends c) o → atom_value v (nets.ends c).ready ≡ bit false
+    at_reader None there none = none
+    at_reader (Some one) there some = some_in_reset law v run nets.channels one (made.made (receiver_of block c) one there) off c false (nets.ends c).ready some
+
+    at_writer : (o : Option PipelineNets) → slice_get nets.pipelines (sender_of block c) ≡ o → WriterMade v c (nets.ends c) o → atom_value v (nets.ends c).offered ≡ bit false
+    at_writer None there none = none
+    at_writer (Some one) there some = some_in_reset law v run nets.channels one (made.made (sender_of block c) one there) off c true (nets.ends c).offered some.0
+
+no_word : (v : Values) (a : Atom) (w : Word) → None ≡ Some w → atom_value v a ≡ w
+no_word v a w e = absurd (cc)
+
+pub netlist_drives : NetlistsDrive → NothingIsAsserted → (m : VModule) (channels : List Channel) (block : Block) (nets : BlockNets) (run : Atom) → IsBlock block → IsNetlistOf m channels block nets run → DrivesBlock m channels block
+netlist_drives law nothing_law m channels block nets run legal is = record {
   behind_reset = λ power rows outs held are runs reset row values fits now c channel port there at.
       let history = history_of m channels block nets run is rows outs held are runs in
       let shown = shown_in_row m channels block nets run is rows held history (is.carry rows outs held are runs) row values fits now law legal power reset c in
       driven_by values channel.ends port (record { ready = (nets.ends c).ready; offered = (nets.ends c).offered; word = (nets.ends c).offered_word }) _ _ (is.ports held values row now c channel port there at) shown.ready shown.offered shown.word;
+  in_reset = λ rows outs held are runs row values fits now on c channel port there at.
+      let made = is.row held values row fits (is.carry rows outs held are runs) now in
+      let none = nothing_in_reset nothing_law values run block nets made.made (made.runs ∙ ap (λ b. bit (not b)) on) c in
+      driven_by values channel.ends port (record { ready = (nets.ends c).ready; offered = (nets.ends c).offered; word = (nets.ends c).offered_word }) false None (is.ports held values row now c channel port there at) none.ready none.offered
+      (no_word values (nets.ends c).offered_word);
 }
