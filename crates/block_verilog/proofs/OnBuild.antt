@@ -1,6 +1,7 @@
 -- The steps by which the parts of a package are put together.
 use Rattle.std.proofs.Common.{◌≡◌, ◌≢◌, ◌⊎◌, inl, inr, ℕ, zero, suc, ◌+◌, ◌-◌, ◌<◌, ◌≤◌, ◌^◌, nat_lt, Bool, true, false, min, List, [], ◌∷◌, ◌++◌, length, map, drop, get_or, Result, Ok, Err, refl, sym, ap, ap₂, ◌∙◌, subst, arith}
 use Rattle.std.specs.Prelude.{slice_get, Option, Some, None, IfOk}
+use Rattle.std.specs.List.{AllByRecursion}
 use Rattle.std.proofs.lemmas.Bool.{ltb-false, cases_eq}
 use Rattle.std.proofs.lemmas.List.{append_assoc, length-append}
 use Rattle.std.proofs.lemmas.Option.{slice_get_within, slice_get-get_or}
@@ -15,7 +16,8 @@ use Rattle.pipe_schedule.specs.declared.schedule.Schedule.{Schedule}
 use Rattle.vlog_tree.specs.declared.expression.Atom.{Atom}
 use Rattle.vlog_tree.specs.declared.module.VModule.{VModule}
 use Rattle.vlog_tree.specs.declared.module.Port.{Port}
-use Rattle.vlog_tree.specs.Signals.{Declared, declared_port}
+use Rattle.vlog_tree.specs.declared.module.Declaration.{Declaration}
+use Rattle.vlog_tree.specs.Signals.{Declared, declared_own, declared_port}
 use Rattle.ir_verify.specs.Verified.{IsVerified}
 use Rattle.vlog_tree.specs.Value.{Values, atom_value, expr_value}
 use Rattle.xb_span.specs.declared.limit.Limit.{Limit}
@@ -31,13 +33,14 @@ use Rattle.block_netlist.specs.Registers.{next_register, Lays}
 use Rattle.block_pipelines.specs.declared.layout.ProcLayout.{ProcLayout}
 use Rattle.block_pipelines.specs.declared.pipelines.ProcWires.{ProcWires}
 use Rattle.block_module.specs.Each.{EachFrom}
-use Rattle.block_module.specs.Assembly.{IsAssembled, port_drivers}
+use Rattle.block_netlist.specs.Wires.{Wire}
+use Rattle.block_module.specs.Assembly.{IsAssembled, own_name, port_drivers, registers_declared, wires_declared}
 use Rattle.block_module.specs.Ports.{flat_bits, module_ports, ports_from}
 use Rattle.block_module.specs.Queues.{fifo_by, IsShown, ViewIs, all_registers, all_next, fifos_from, IsViewOf, IsViewed, AreShown, FifosGo}
 use Rattle.block_module.proofs.Lemmas.Each.{each_at}
 use Rattle.block_verilog.proofs.OnMade.{is_there}
 use Rattle.block_verilog.proofs.OnPut.{ports_long, fifos_long, same_many, laid_many, put_together}
-use Rattle.block_verilog.specs.Modules.{IsMadeOfParts, is_deep, limit_of, IsFirstTooDeep, NoneTooDeep, HaveSlots, AreFifoDepths, AreScheduled}
+use Rattle.block_verilog.specs.Modules.{IsMadeOfParts, IsOwnName, is_deep, limit_of, IsFirstTooDeep, NoneTooDeep, HaveSlots, AreFifoDepths, AreScheduled}
 use Rattle.block_verilog.specs.Parts.{nexts_of}
 use Rattle.block_verilog.specs.Procs.{AreLaidOut, laid_registers, MadeProc, IsMadeProc, AreMade, IsPartOf, ArePutNext}
 use Rattle.block_verilog.specs.Put.{AllLaid, AllDriven, AllPut, AllNext}
@@ -252,3 +255,30 @@ few_registers next registers e l = subst (λ n. n < 2 ^ 32) e l
 pub ok_then : {A E : Type 0} (o : Result A E) (P Q : A → Type 0) → IfOk o P → ((a : A) → P a → Q a) → IfOk o Q
 ok_then (Ok a) P Q h f = f a h
 ok_then (Err e) P Q h f = tt
+
+-- ---- names
+
+abbrev AreOwn : List Declared → Type 0
+AreOwn xs = AllByRecursion (λ d. IsOwnName d.name) xs
+
+registers_own : (n : ℕ) (registers : List Register) → AreOwn (registers_declared n registers)
+registers_own n [] = tt
+registers_own n (register ∷ registers) = ((n, refl), registers_own (suc n) registers)
+
+wires_own : (n : ℕ) (wires : List Wire) → AreOwn (wires_declared n wires)
+wires_own n [] = tt
+wires_own n (wire ∷ wires) = ((n, refl), wires_own (suc n) wires)
+
+both_own : (xs ys : List Declared) → AreOwn xs → AreOwn ys → AreOwn (xs ++ ys)
+both_own [] ys h g = g
+both_own (x ∷ xs) ys h g = (h.0, both_own xs ys h.1 g)
+
+declared_so : (ds : List Declaration) → AreOwn (map declared_own ds) → AllByRecursion (λ own. IsOwnName own.name) ds
+declared_so [] h = tt
+declared_so (d ∷ ds) h = (h.0, declared_so ds h.1)
+
+-- registers and wires have numbers as names
+pub own_names : (ds : List Declaration) (registers : RegisterList) (wires : WireList) → map declared_own ds ≡ registers_declared registers.first registers.registers.items ++ wires_declared wires.first wires.wires.items
+    → AllByRecursion (λ own. IsOwnName own.name) ds
+own_names ds registers wires e =
+    declared_so ds (subst AreOwn (sym e) (both_own (registers_declared registers.first registers.registers.items) (wires_declared wires.first wires.wires.items) (registers_own registers.first registers.registers.items) (wires_own wires.first wires.wires.items)))

@@ -1,5 +1,6 @@
 -- The module of a package.
 use Rattle.std.specs.Prelude.{◌≡◌, ℕ, ◌+◌, ◌<◌, ◌≤◌, ◌^◌, nat_lt, get_or, Bool, true, false, length, map, codes, List, [], ◌∷◌, ◌++◌, Some, slice_get}
+use Rattle.std.specs.List.{AllByRecursion}
 use Rattle.xb_span.specs.declared.limit.Limit.{Limit}
 use Rattle.xb_span.specs.declared.limit.What.TheVariants as what
 use Rattle.ir_tree.specs.declared.package.Channel.{Channel}
@@ -22,7 +23,7 @@ use Rattle.block_netlist.specs.declared.wires.WireList.{WireList}
 use Rattle.block_netlist.specs.Added.{Carries}
 use Rattle.block_netlist.specs.Gates.{net, not_gate}
 use Rattle.block_schedule.specs.Pipelines.{block_of}
-use Rattle.block_module.specs.Assembly.{IsAssembled, port_drivers}
+use Rattle.block_module.specs.Assembly.{IsAssembled, own_name, port_drivers}
 use Rattle.block_module.specs.Drives.{DrivesBlock}
 use Rattle.block_module.specs.Ports.{module_ports, ports_from}
 use Rattle.block_verilog.specs.Parts.{BlockParts, IsBlockPut, IsBlockDriven, block_registers, block_nexts}
@@ -41,12 +42,17 @@ pub record IsMadeOfParts (m : VModule) (ir : Package) (clock : ℕ) (schedules :
   pub runs : (v : Values) → Carries v wires → atom_value v run ≡ expr_value v (not_gate (net 1)).driver
   pub assembled : IsAssembled m (module_ports ir.channels) registers (block_nexts parts) wires (port_drivers ir.channels (ports_from 2 ir.channels) parts.sides)
 
--- the module of a package, with these schedules and depths: it can be simulated, has the package's name and ports, and drives there what
--- the package's block does
+-- a name that is `n_` and a decimal number
+abbrev pub IsOwnName : List ℕ → Type 0
+IsOwnName name = (number : ℕ) × (name ≡ own_name number)
+
+-- the module of a package, with these schedules and depths: it can be simulated, has the package's name and ports, beside which all its
+-- names are numbers, and drives there what the package's block does
 pub record IsModuleOf (m : VModule) (ir : Package) (schedules : List (List ℕ)) (depths : List ℕ) : Type 0 where
   pub runs : CanRun m
   pub name : m.name ≡ ir.name ++ codes "_top"
   pub ports : map declared_port m.ports ≡ module_ports ir.channels
+  pub names : AllByRecursion (λ own. IsOwnName own.name) m.declarations
   pub drives : DrivesBlock m ir.channels (block_of ir schedules depths)
 
 -- each proc has a schedule that is legal at this clock, with its number of stages and its interval

@@ -283,6 +283,7 @@ pub fn build(
     requires verified { IsVerified ir.now }
     requires deep { HaveSlots ir.now.channels depths.now }
     ensures verified { IfOk result (λ m. IsVerdict m no_spans None) }
+    ensures shallow { IfOk result (λ m. NoneTooDeep ir.now.channels depths.now) }
     ensures module { IfOk result (λ m. (clock : ℕ) → AreScheduled clock ir.now.procs schedules.now → IsModuleOf m ir.now (map (λ (schedule : SomeSchedule). schedule.stage) schedules.now) depths.now) }
     ensures refused { IfErr result (λ e. (e ≡ OutOfMemory) ⊎ ((limit : SomeLimit) × IsFirstTooDeep ir.now.channels depths.now limit × (e ≡ Over limit))) }
 {
