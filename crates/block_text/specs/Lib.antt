@@ -1,0 +1,2 @@
+-- the Verilog text of a package
+pub mod Texts
