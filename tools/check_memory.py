@@ -15,7 +15,7 @@ import subprocess
 import sys
 import tempfile
 
-from run_tests import case_of
+from run_tests import answer as answer_of, case_of
 
 FAILING = r"""
 #define _GNU_SOURCE
@@ -79,6 +79,8 @@ CASES = [
     "ir_texts/operand_that_comes_later",
     "schedule/schedule",
     "schedule/too_few_stages",
+    "verilog/request_before_reply",
+    "verilog/depth_past_the_limit",
     "opt/optimised_package",
     "sim/simulation",
     "words/commands_that_come_later",
@@ -114,7 +116,8 @@ def answer(program, words, folder, library, failing):
 
 def check_case(program, case, folder, library):
     """Fails each allocation of a call, up to the first that it doesn't make; answers how many it makes."""
-    words, right, wanting = case.calls[0], case.wanted, 0
+    words, wanting = case.calls[0], 0
+    right = answer_of(program, words, case.folder) if case.rows else case.wanted
     for failing in itertools.count(1):
         got, made = answer(program, words, folder, library, failing)
         if made < failing:

@@ -12,6 +12,7 @@ import glob
 import os
 import subprocess
 import sys
+import tempfile
 
 TESTS = os.path.join(os.path.dirname(os.path.dirname(os.path.abspath(__file__))), 'tests')
 SHOWN = 10
@@ -29,6 +30,7 @@ class Case:
         lines = self.text(kind).decode().splitlines()
         self.calls = [lines] if kind == '.args' else [line.split() for line in lines]
         self.wanted = self.text('.out'), self.text('.err'), int(self.text('.status') or 0)
+        self.rows = self.base + '.rows' if os.path.exists(self.base + '.rows') else None
 
     def text(self, kind):
         """The bytes of this file of the case; nothing where it has no such file."""
@@ -38,10 +40,20 @@ class Case:
         with open(path, 'rb') as file:
             return file.read()
 
+    def answer(self, program, words):
+        """What a call answers; of a module that it writes, where the case has rows, what that shows over them."""
+        got = answer(program, words, self.folder)
+        if not self.rows or got[1:] != (b'', 0):
+            return got
+        with tempfile.NamedTemporaryFile(suffix='.v') as module:
+            module.write(got[0])
+            module.flush()
+            return answer(program, ['sim', module.name, self.rows], self.folder)
+
     def difference(self, program):
         """The first call that answers otherwise, with what it answers; None where none does."""
         for words in self.calls:
-            got = answer(program, words, self.folder)
+            got = self.answer(program, words)
             if got != self.wanted:
                 return '%s: %s\n  got    %s\n  wanted %s' % (self.name, ' '.join(words), shown(got), shown(self.wanted))
         return None if self.calls else '%s: no call' % self.name
@@ -75,7 +87,7 @@ def cases(names=()):
 def strays():
     """What is wanted of a case that isn't there."""
     bases = {case.base for case in cases()}
-    return [path for path in files('.out', '.err', '.status') if os.path.splitext(path)[0] not in bases]
+    return [path for path in files('.out', '.err', '.status', '.rows') if os.path.splitext(path)[0] not in bases]
 
 
 def case_of(name):

@@ -14,3 +14,4 @@ IsInBounds (request.Run said) = IsWorkerCount said.how.workers
 IsInBounds (request.Sim said) = Unit {0}
 IsInBounds (request.Schedule said) = 1 ≤ said.timing.stages
 IsInBounds (request.Opt said) = Unit {0}
+IsInBounds (request.Verilog said) = 1 ≤ said.timing.stages

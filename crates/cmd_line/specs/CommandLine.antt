@@ -16,6 +16,7 @@ use Rattle.cmd_line.specs.declared.request.Opt.{Opt}
 use Rattle.cmd_line.specs.declared.request.Source.{Source}
 use Rattle.cmd_line.specs.declared.request.Source.TheVariants.{Dslx, Ir}
 use Rattle.cmd_line.specs.declared.request.Timing.{Timing}
+use Rattle.cmd_line.specs.declared.request.Verilog.{Verilog}
 
 -- ---- the command line
 
@@ -79,13 +80,17 @@ stages = record (option (codes "stages")) { parser = Some (vp.Signed (pos 1) (po
 abbrev pub interval : Rule
 interval = record (option (codes "ii")) { parser = Some (vp.Signed (pos 1) (pos 64)) }
 
--- the file, the clock and the stages
-abbrev pub plain_schedule : App
-plain_schedule = with_rule (with_rule (with_rule (new_app (codes "schedule")) (file (codes "design"))) clock) stages
+-- a command whose words name a file and say what its schedules must keep to
+abbrev pub scheduling : Text → App
+scheduling name = with_rule (with_rule (with_rule (with_rule (new_app name) (file (codes "design"))) clock) stages) interval
 
 -- `schedule FILE --clock PS [--stages N] [--ii N] [--from F]`
 abbrev pub schedule : App
-schedule = with_rule (with_rule plain_schedule interval) from
+schedule = with_rule (scheduling (codes "schedule")) from
+
+-- `verilog FILE --clock PS [--stages N] [--ii N] [--depth D] [--from F]`
+abbrev pub verilog : App
+verilog = with_rule (with_rule (scheduling (codes "verilog")) depth) from
 
 -- `opt FILE [--from F]`
 abbrev pub opt : App
@@ -96,7 +101,7 @@ abbrev pub bare : App → App
 bare app = record app { top = record app.top { no_binary_name = true } }
 
 unfoldable pub xls : App
-xls = with_subcommand (with_subcommand (with_subcommand (with_subcommand (with_subcommand (bare (new_app (codes "xls"))) check.top) run.top) sim.top) schedule.top) opt.top
+xls = with_subcommand (with_subcommand (with_subcommand (with_subcommand (with_subcommand (with_subcommand (bare (new_app (codes "xls"))) check.top) run.top) sim.top) schedule.top) opt.top) verilog.top
 
 -- ---- what words say
 
@@ -160,6 +165,11 @@ abbrev pub opt_arguments : List Row → Option (Opt Text)
 opt_arguments rows =
     option_and_then (λ design. option_map (λ source. record { design = design; source = source }) (source_in (first_of (codes "from") rows))) (first_of (codes "design") rows)
 
+abbrev pub verilog_arguments : List Row → Option (Verilog Text)
+verilog_arguments rows =
+    option_and_then (λ design. option_and_then (λ timing. option_and_then (λ depth. option_map (λ source. record { design = design; timing = timing; depth = depth; source = source })
+    (source_in (first_of (codes "from") rows))) (depth_in (first_of (codes "depth") rows))) (timing_arguments rows)) (first_of (codes "design") rows)
+
 -- what the matches of a subcommand say
 abbrev pub subcommand_arguments : Text × List Row → Option (Request Text)
 subcommand_arguments found =
@@ -168,6 +178,7 @@ subcommand_arguments found =
     else if bytes_eq found.0 (codes "sim") then option_map request.Sim (sim_arguments found.1)
     else if bytes_eq found.0 (codes "schedule") then option_map request.Schedule (schedule_arguments found.1)
     else if bytes_eq found.0 (codes "opt") then option_map request.Opt (opt_arguments found.1)
+    else if bytes_eq found.0 (codes "verilog") then option_map request.Verilog (verilog_arguments found.1)
     else None
 
 -- where `clap` finds no fault in the words, what the matches of their subcommand say

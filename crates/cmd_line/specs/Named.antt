@@ -8,6 +8,7 @@ use Rattle.cmd_line.specs.declared.request.Run.{Run}
 use Rattle.cmd_line.specs.declared.request.Sim.{Sim}
 use Rattle.cmd_line.specs.declared.request.Schedule.{Schedule}
 use Rattle.cmd_line.specs.declared.request.Opt.{Opt}
+use Rattle.cmd_line.specs.declared.request.Verilog.{Verilog}
 
 abbrev pub named_check : Check (Bor (List ℕ)) → Check (List ℕ)
 named_check said = record { design = said.design.now }
@@ -24,9 +25,13 @@ named_schedule said = record { design = said.design.now; timing = said.timing; s
 abbrev pub named_opt : Opt (Bor (List ℕ)) → Opt (List ℕ)
 named_opt said = record { design = said.design.now; source = said.source }
 
+abbrev pub named_verilog : Verilog (Bor (List ℕ)) → Verilog (List ℕ)
+named_verilog said = record { design = said.design.now; timing = said.timing; depth = said.depth; source = said.source }
+
 abbrev pub named : Request (Bor (List ℕ)) → Request (List ℕ)
 named (request.Check said) = request.Check (named_check said)
 named (request.Run said) = request.Run (named_run said)
 named (request.Sim said) = request.Sim (named_sim said)
 named (request.Schedule said) = request.Schedule (named_schedule said)
 named (request.Opt said) = request.Opt (named_opt said)
+named (request.Verilog said) = request.Verilog (named_verilog said)

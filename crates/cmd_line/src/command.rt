@@ -1,7 +1,7 @@
 ghost use Rattle.std.specs.Prelude.{◌≡◌, IfOk, false, codes};
 ghost use Rattle.clap.specs.Words.{App, Rule, app_of, new_app, rule_of, with_rule, with_subcommand as with_app};
 ghost use Rattle.clap.specs.declared.builder.Command.TheViews.{out-Command as fields_of};
-ghost use Rattle.cmd_line.specs.CommandLine.{activations, check, clock, depth, file, from, interval, opt, option, plain_run, plain_schedule, run, schedule, sim, stages, workers, xls};
+ghost use Rattle.cmd_line.specs.CommandLine.{activations, check, clock, depth, file, from, interval, opt, option, plain_run, run, schedule, scheduling, sim, stages, verilog, workers, xls};
 
 use clap::{Arg, Command, value_parser};
 use std::alloc::{AllocError, Global};
@@ -15,7 +15,8 @@ pub fn command<'a>(alloc: Global) -> Result<Command<'a>, AllocError>
     let xls = with_subcommand(xls, run(alloc));
     let xls = with_subcommand(xls, sim(alloc));
     let xls = with_subcommand(xls, schedule(alloc));
-    with_subcommand(xls, opt(alloc))
+    let xls = with_subcommand(xls, opt(alloc));
+    with_subcommand(xls, verilog(alloc))
 }
 
 /// What was built, with a subcommand more, where there was memory for both.
@@ -95,19 +96,28 @@ fn schedule<'a>(alloc: Global) -> Result<Command<'a>, AllocError>
     ensures app { IfOk result (λ command. app_of command ≡ schedule) }
     ensures local { IfOk result (λ command. (fields_of command).has_globals ≡ false) }
 {
-    let built = plain_schedule(alloc);
-    let built = with_arg(built, interval(alloc));
+    let built = scheduling(alloc, "schedule");
     with_arg(built, from(alloc))
 }
 
-/// The file, the clock and the stages.
-fn plain_schedule<'a>(alloc: Global) -> Result<Command<'a>, AllocError>
-    ensures app { IfOk result (λ command. app_of command ≡ plain_schedule) }
+fn verilog<'a>(alloc: Global) -> Result<Command<'a>, AllocError>
+    ensures app { IfOk result (λ command. app_of command ≡ verilog) }
     ensures local { IfOk result (λ command. (fields_of command).has_globals ≡ false) }
 {
-    let built = of_design(alloc, "schedule");
+    let built = scheduling(alloc, "verilog");
+    let built = with_arg(built, depth(alloc));
+    with_arg(built, from(alloc))
+}
+
+/// A subcommand whose words name a file and say what its schedules must keep to.
+fn scheduling<'a>(alloc: Global, name: &'a str) -> Result<Command<'a>, AllocError>
+    ensures app { IfOk result (λ command. app_of command ≡ scheduling name.entry.now) }
+    ensures local { IfOk result (λ command. (fields_of command).has_globals ≡ false) }
+{
+    let built = of_design(alloc, name);
     let built = with_arg(built, clock(alloc));
-    with_arg(built, stages(alloc))
+    let built = with_arg(built, stages(alloc));
+    with_arg(built, interval(alloc))
 }
 
 fn opt<'a>(alloc: Global) -> Result<Command<'a>, AllocError>

@@ -6,6 +6,7 @@ pub enum Request<N> {
     Sim(Sim<N>),
     Schedule(Schedule<N>),
     Opt(Opt<N>),
+    Verilog(Verilog<N>),
 }
 
 /// `check FILE`
@@ -60,6 +61,16 @@ pub struct Schedule<N> {
 #[derive(Clone, Copy)]
 pub struct Opt<N> {
     pub design: N,
+    pub source: Source,
+}
+
+/// `verilog FILE --clock PS [--stages N] [--ii N] [--depth D] [--from F]`
+#[derive(Clone, Copy)]
+pub struct Verilog<N> {
+    pub design: N,
+    pub timing: Timing,
+    /// What replaces the depth of each inner channel: 1 to 4,096.
+    pub depth: Option<u32>,
     pub source: Source,
 }
 

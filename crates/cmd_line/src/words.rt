@@ -1,12 +1,12 @@
 ghost use Rattle.std.specs.Prelude.{◌≡◌, ◌≤◌, IfOk, IfSome, Option, map, option_map, option_and_then, string_bytes};
 ghost use Rattle.clap.specs.Words.{first_of, found_of, rows_of, subcommand_rows_of};
-ghost use Rattle.cmd_line.specs.CommandLine.{depth_in, most_in, arguments_of, check_arguments, opt_arguments, run_arguments, schedule_arguments, sim_arguments, subcommand_arguments, how_arguments, timing_arguments, source_in, workers_in};
-ghost use Rattle.cmd_line.specs.Named.{named, named_check, named_opt, named_run, named_schedule, named_sim};
+ghost use Rattle.cmd_line.specs.CommandLine.{depth_in, most_in, arguments_of, check_arguments, opt_arguments, run_arguments, schedule_arguments, sim_arguments, subcommand_arguments, how_arguments, timing_arguments, source_in, verilog_arguments, workers_in};
+ghost use Rattle.cmd_line.specs.Named.{named, named_check, named_opt, named_run, named_schedule, named_sim, named_verilog};
 ghost use Rattle.cmd_line.specs.Bounds.{IsInBounds, IsWorkerCount};
 
 use crate::command::command;
 use crate::number::read_number;
-use crate::request::{Check, How, Opt, Request, Run, Schedule, Sim, Source, Timing};
+use crate::request::{Check, How, Opt, Request, Run, Schedule, Sim, Source, Timing, Verilog};
 use clap::ArgMatches;
 use clap::error::ErrorKind;
 use std::alloc::{AllocError, Global};
@@ -38,6 +38,7 @@ fn request<'a>(matches: &ArgMatches<'a>) -> Option<Request<&'a str>>
         Some(("sim", matches)) => Some(Request::Sim(sim(matches)?)),
         Some(("schedule", matches)) => Some(Request::Schedule(schedule(matches)?)),
         Some(("opt", matches)) => Some(Request::Opt(opt(matches)?)),
+        Some(("verilog", matches)) => Some(Request::Verilog(verilog(matches)?)),
         _ => None,
     }
 }
@@ -171,6 +172,30 @@ fn opt<'a>(matches: &ArgMatches<'a>) -> Option<Opt<&'a str>>
     };
     match source(text(matches, "from")) {
         Some(source) => Some(Opt { design, source }),
+        None => None,
+    }
+}
+
+fn verilog<'a>(matches: &ArgMatches<'a>) -> Option<Verilog<&'a str>>
+    ensures said { option_map named_verilog result ≡ verilog_arguments (rows_of (found_of matches.now)) }
+    ensures bounds { IfSome result (λ said. 1 ≤ said.timing.stages) }
+{
+    let Some(design) = text(matches, "design") else {
+        return None;
+    };
+    let Some(timing) = timing(matches) else {
+        return None;
+    };
+    let Some(depth) = depth(text(matches, "depth")) else {
+        return None;
+    };
+    match source(text(matches, "from")) {
+        Some(source) => Some(Verilog {
+            design,
+            timing,
+            depth,
+            source,
+        }),
         None => None,
     }
 }

@@ -11,23 +11,25 @@ use Rattle.xls_cmd.specs.Shared.Fault.{Fault}
 use Rattle.xls_cmd.specs.Shared.Step.{IsOne, ExpectedBy}
 use Rattle.cmd_line.specs.CommandLine.{arguments_of}
 use Rattle.cmd_line.specs.declared.request.Request.{Request}
-use Rattle.cmd_line.specs.declared.request.Request.TheVariants.{Check, Run, Sim, Schedule, Opt}
+use Rattle.cmd_line.specs.declared.request.Request.TheVariants.{Check, Run, Sim, Schedule, Opt, Verilog}
 use Rattle.cmd_line.specs.declared.request.Source.{Source}
 use Rattle.cmd_line.specs.declared.request.Source.TheVariants.{Dslx, Ir}
 use Rattle.xls_cmd.specs.Design.Commands as design
 use Rattle.xls_cmd.specs.Ir.Commands as ir
 use Rattle.xls_cmd.specs.Schedule.Commands as schedules
 use Rattle.xls_cmd.specs.Opt.Commands as optimising
-use Rattle.xls_cmd.specs.Opt.Agrees.{AreAlike, Agrees}
+use Rattle.xls_cmd.specs.Verilog.Commands as printing
+use Rattle.xls_cmd.specs.Shared.Agrees.{AreAlike, Agrees}
 use Rattle.xls_cmd.specs.Sim.Simulation as simulation
 use Rattle.cmd_line.specs.declared.request.Check.{Check as SaidCheck}
 use Rattle.cmd_line.specs.declared.request.Run.{Run as SaidRun}
 use Rattle.cmd_line.specs.declared.request.Schedule.{Schedule as SaidSchedule}
 use Rattle.cmd_line.specs.declared.request.Opt.{Opt as SaidOpt}
 use Rattle.cmd_line.specs.declared.request.Sim.{Sim as SaidSim}
-use Rattle.xls_cmd.specs.Answer.{by_workers, expected, expected_for, expected_of, expected_of_opt, expected_of_opt_by, expected_of_run, expected_of_schedule, expected_of_schedule_by, files_of, files_of_opt, files_of_opt_by, files_of_schedule, files_of_schedule_by, is_exact, is_exact_by, is_exact_for, named_files, named_for, run_by, status_for}
+use Rattle.cmd_line.specs.declared.request.Verilog.{Verilog as SaidVerilog}
+use Rattle.xls_cmd.specs.Answer.{by_workers, expected, expected_for, expected_of, expected_of_opt, expected_of_opt_by, expected_of_run, expected_of_schedule, expected_of_schedule_by, expected_of_verilog, expected_of_verilog_by, files_of, files_of_opt, files_of_opt_by, files_of_schedule, files_of_schedule_by, files_of_verilog, files_of_verilog_by, is_exact, is_exact_by, is_exact_for, named_files, named_for, run_by, status_for}
 
--- each command gives one thing
+-- each command gives one thing, or answers that may differ in their text alone
 pub record TheLaws : Type 0 where
   pub check : (holds : Contents) (arguments : SaidCheck (List ℕ)) → IsOne (design.check holds arguments)
   pub run : (holds : Contents) (arguments : SaidRun (List ℕ)) → IsOne (design.run holds arguments)
@@ -35,6 +37,7 @@ pub record TheLaws : Type 0 where
   pub sim : (holds : Contents) (arguments : SaidSim (List ℕ)) → IsOne (simulation.sim holds arguments)
   pub schedule_ir : (holds : Contents) (arguments : SaidSchedule (List ℕ)) → IsOne (schedules.schedule holds arguments)
   pub opt_ir : (holds : Contents) (arguments : SaidOpt (List ℕ)) → Agrees (optimising.opt holds arguments)
+  pub verilog_ir : (holds : Contents) (arguments : SaidVerilog (List ℕ)) → Agrees (printing.verilog holds arguments)
 
 run_is_one : TheLaws → (source : Source) (arguments : SaidRun (List ℕ)) (holds : Contents) → IsOne (run_by source holds arguments)
 run_is_one laws Dslx arguments holds = laws.run holds arguments
@@ -54,12 +57,17 @@ opt_is_one : (source : Source) (arguments : SaidOpt (List ℕ)) (holds : Content
 opt_is_one Dslx arguments holds exact a b is also = is ∙ sym also
 opt_is_one Ir arguments holds exact a b is also = absurd (cc)
 
+verilog_is_one : (source : Source) (arguments : SaidVerilog (List ℕ)) (holds : Contents) → is_exact_by source ≡ true → IsOne (expected_of_verilog_by source arguments (Some holds))
+verilog_is_one Dslx arguments holds exact a b is also = is ∙ sym also
+verilog_is_one Ir arguments holds exact a b is also = absurd (cc)
+
 expected_of_is_one : TheLaws → (arguments : Request (List ℕ)) (holds : Contents) → is_exact_for (Some arguments) ≡ true → IsOne (expected_of arguments (Some holds))
 expected_of_is_one laws (Check arguments) holds exact a b is also = laws.check holds arguments a b is.1 also.1
 expected_of_is_one laws (Run arguments) holds exact a b is also = run_is_one laws arguments.how.source arguments holds a b is.1 also.1
 expected_of_is_one laws (Sim arguments) holds exact a b is also = laws.sim holds arguments a b is.1 also.1
 expected_of_is_one laws (Schedule arguments) holds exact a b is also = schedule_is_one laws arguments.source arguments holds a b is also
 expected_of_is_one laws (Opt arguments) holds exact a b is also = opt_is_one arguments.source arguments holds exact a b is also
+expected_of_is_one laws (Verilog arguments) holds exact a b is also = verilog_is_one arguments.source arguments holds exact a b is also
 
 expected_for_is_one : TheLaws → (arguments : Option (Request (List ℕ))) (holds : Contents) → is_exact_for arguments ≡ true → IsOne (expected_for arguments (Some holds))
 expected_for_is_one laws None holds exact a b is also = is ∙ sym also
@@ -81,6 +89,10 @@ opt_agrees : TheLaws → (source : Source) (arguments : SaidOpt (List ℕ)) (hol
 opt_agrees laws Dslx arguments holds a b is also = one_agrees (expected_of_opt_by Dslx arguments (Some holds)) (λ a b is also. is ∙ sym also) a b is also
 opt_agrees laws Ir arguments holds a b is also = laws.opt_ir holds arguments a b is.1 also.1
 
+verilog_agrees : TheLaws → (source : Source) (arguments : SaidVerilog (List ℕ)) (holds : Contents) → Agrees (expected_of_verilog_by source arguments (Some holds))
+verilog_agrees laws Dslx arguments holds a b is also = one_agrees (expected_of_verilog_by Dslx arguments (Some holds)) (λ a b is also. is ∙ sym also) a b is also
+verilog_agrees laws Ir arguments holds a b is also = laws.verilog_ir holds arguments a b is.1 also.1
+
 expected_for_agrees : TheLaws → (arguments : Option (Request (List ℕ))) (holds : Contents) → Agrees (expected_for arguments (Some holds))
 expected_for_agrees laws None holds = one_agrees (expected_for None (Some holds)) (expected_for_is_one laws None holds refl)
 expected_for_agrees laws (Some (Check arguments)) holds = one_agrees (expected_of (Check arguments) (Some holds)) (expected_of_is_one laws (Check arguments) holds refl)
@@ -88,6 +100,7 @@ expected_for_agrees laws (Some (Run arguments)) holds = one_agrees (expected_of 
 expected_for_agrees laws (Some (Sim arguments)) holds = one_agrees (expected_of (Sim arguments) (Some holds)) (expected_of_is_one laws (Sim arguments) holds refl)
 expected_for_agrees laws (Some (Schedule arguments)) holds = one_agrees (expected_of (Schedule arguments) (Some holds)) (expected_of_is_one laws (Schedule arguments) holds refl)
 expected_for_agrees laws (Some (Opt arguments)) holds = opt_agrees laws arguments.source arguments holds
+expected_for_agrees laws (Some (Verilog arguments)) holds = verilog_agrees laws arguments.source arguments holds
 
 pub expected_agrees : TheLaws → (words : List (List ℕ)) (holds : Contents) → Agrees (expected words (Some holds))
 expected_agrees laws words holds = expected_for_agrees laws (arguments_of words) holds
@@ -124,6 +137,11 @@ module _ {V : Type 0} (items : V → List ℕ) (words : List (List ℕ)) (known_
   pub opt_by_source : (source : Source) (arguments : SaidOpt (List ℕ)) → source ≡ arguments.source → IsDone items (expected_of_opt_by source arguments known_contents) (files_of_opt_by source arguments) files given →
       IsDone items (expected_of_opt arguments known_contents) (files_of_opt arguments) files given
   opt_by_source source arguments is done = subst (λ (s : Source). IsDone items (expected_of_opt_by s arguments known_contents) (files_of_opt_by s arguments) files given) is done
+
+  -- the Verilog of what it may be made of
+  pub verilog_by_source : (source : Source) (arguments : SaidVerilog (List ℕ)) → source ≡ arguments.source → IsDone items (expected_of_verilog_by source arguments known_contents) (files_of_verilog_by source arguments) files given →
+      IsDone items (expected_of_verilog arguments known_contents) (files_of_verilog arguments) files given
+  verilog_by_source source arguments is done = subst (λ (s : Source). IsDone items (expected_of_verilog_by s arguments known_contents) (files_of_verilog_by s arguments) files given) is done
 
 -- nothing was loaded
 pub nothing_asked : (names : List (List ℕ)) → names ≡ names ++ []

@@ -11,5 +11,7 @@ pub mod OnSchedule
 pub mod OnShared
 -- `sim`
 pub mod OnSim
+-- `verilog`
+pub mod OnVerilog
 -- for other crates' proofs
 pub mod Lemmas

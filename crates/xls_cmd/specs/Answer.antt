@@ -10,6 +10,7 @@ use Rattle.cmd_line.specs.declared.request.Request.TheVariants as request
 use Rattle.cmd_line.specs.declared.request.Run.{Run}
 use Rattle.cmd_line.specs.declared.request.Schedule.{Schedule}
 use Rattle.cmd_line.specs.declared.request.Opt.{Opt}
+use Rattle.cmd_line.specs.declared.request.Verilog.{Verilog}
 use Rattle.cmd_line.specs.declared.request.Source.{Source}
 use Rattle.cmd_line.specs.declared.request.Source.TheVariants.{Dslx, Ir}
 use Rattle.xls_cmd.specs.Design.Commands as design
@@ -17,6 +18,7 @@ use Rattle.xls_cmd.specs.Ir.Commands as ir
 use Rattle.xls_cmd.specs.Sim.Simulation as simulation
 use Rattle.xls_cmd.specs.Schedule.Commands as schedules
 use Rattle.xls_cmd.specs.Opt.Commands as optimising
+use Rattle.xls_cmd.specs.Verilog.Commands as printing
 
 -- what a run gives, by what its file is written in
 abbrev pub run_by : Source → Contents → Run (List ℕ) → Step (List ℕ)
@@ -46,6 +48,14 @@ expected_of_opt_by Ir arguments known_contents given = ExpectedBy known_contents
 abbrev pub expected_of_opt : Opt (List ℕ) → Option Contents → Step (List ℕ)
 expected_of_opt arguments known_contents = expected_of_opt_by arguments.source arguments known_contents
 
+-- the Verilog of designs is to come
+abbrev pub expected_of_verilog_by : Source → Verilog (List ℕ) → Option Contents → Step (List ℕ)
+expected_of_verilog_by Dslx arguments known_contents given = given ≡ Err Usage
+expected_of_verilog_by Ir arguments known_contents given = ExpectedBy known_contents (λ holds. printing.verilog holds arguments) given
+
+abbrev pub expected_of_verilog : Verilog (List ℕ) → Option Contents → Step (List ℕ)
+expected_of_verilog arguments known_contents = expected_of_verilog_by arguments.source arguments known_contents
+
 -- What is expected for what the words of each command say: this is the one place that lists them. A command that is to come refuses
 -- its words.
 abbrev pub expected_of : Request (List ℕ) → Option Contents → Step (List ℕ)
@@ -54,6 +64,7 @@ expected_of (request.Run arguments) known_contents given = expected_of_run argum
 expected_of (request.Sim arguments) known_contents given = ExpectedBy known_contents (λ holds. simulation.sim holds arguments) given
 expected_of (request.Schedule arguments) known_contents given = expected_of_schedule arguments known_contents given
 expected_of (request.Opt arguments) known_contents given = expected_of_opt arguments known_contents given
+expected_of (request.Verilog arguments) known_contents given = expected_of_verilog arguments known_contents given
 
 abbrev pub files_of_schedule_by : Source → Schedule (List ℕ) → List (List ℕ)
 files_of_schedule_by Dslx arguments = []
@@ -69,6 +80,13 @@ files_of_opt_by Ir arguments = optimising.opt_files arguments
 abbrev pub files_of_opt : Opt (List ℕ) → List (List ℕ)
 files_of_opt arguments = files_of_opt_by arguments.source arguments
 
+abbrev pub files_of_verilog_by : Source → Verilog (List ℕ) → List (List ℕ)
+files_of_verilog_by Dslx arguments = []
+files_of_verilog_by Ir arguments = printing.verilog_files arguments
+
+abbrev pub files_of_verilog : Verilog (List ℕ) → List (List ℕ)
+files_of_verilog arguments = files_of_verilog_by arguments.source arguments
+
 -- the files that the words of each name, in the order in which they are loaded
 abbrev pub files_of : Request (List ℕ) → List (List ℕ)
 files_of (request.Check arguments) = design.check_files arguments
@@ -76,6 +94,7 @@ files_of (request.Run arguments) = design.run_files arguments
 files_of (request.Sim arguments) = simulation.sim_files arguments
 files_of (request.Schedule arguments) = files_of_schedule arguments
 files_of (request.Opt arguments) = files_of_opt arguments
+files_of (request.Verilog arguments) = files_of_verilog arguments
 
 abbrev pub expected_for : Option (Request (List ℕ)) → Option Contents → Step (List ℕ)
 expected_for None known_contents given = given ≡ Err Usage
@@ -92,9 +111,10 @@ is_exact_by Ir = false
 
 abbrev pub is_exact_for : Option (Request (List ℕ)) → Bool
 is_exact_for (Some (request.Opt arguments)) = is_exact_by arguments.source
+is_exact_for (Some (request.Verilog arguments)) = is_exact_by arguments.source
 is_exact_for _ = true
 
--- words for which one thing is expected: all but those for an optimised package, of which several are as good
+-- words for which one thing is expected: all but those for an optimised package or for a module, of which several are as good
 abbrev pub is_exact : List (List ℕ) → Bool
 is_exact words = is_exact_for (arguments_of words)
 

@@ -12,5 +12,7 @@ pub mod Schedule
 pub mod Shared
 -- `sim`
 pub mod Sim
+-- `verilog`
+pub mod Verilog
 -- which words want several workers
 pub mod Workers

@@ -2,6 +2,8 @@
 pub mod Fault
 -- steps that give something or a fault, one after the other
 pub mod Step
+-- answers that may differ in their text alone
+pub mod Agrees
 -- the steps of loading a file and reading it as a text
 pub mod Loads
 -- what a call does to the files and the sinks

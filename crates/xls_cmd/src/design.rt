@@ -12,5 +12,5 @@ mod source;
 
 pub use check::{accepted, check_design};
 pub use run::{run_design, run_design_alone};
-pub use running::{run_text, run_text_alone};
+pub use running::{depths, run_text, run_text_alone};
 pub use source::{inputs_of, read_design};

@@ -12,5 +12,6 @@ pub mod schedule;
 pub mod shared;
 pub mod sim;
 mod top;
+pub mod verilog;
 
 pub use top::{answer_alone, xls_main};

@@ -7,4 +7,5 @@ mod command;
 pub mod laws;
 mod scheduling;
 
-pub use command::schedule_ir;
+pub use command::{demands_of, schedule_ir};
+pub use scheduling::schedules_of;

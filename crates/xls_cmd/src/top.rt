@@ -4,11 +4,11 @@ ghost use Rattle.xls_cmd.specs.Shared.Answered.{IsAnswered};
 ghost use Rattle.xls_cmd.specs.Shared.Done.{IsDone};
 ghost use Rattle.xls_cmd.specs.Shared.Events.{file_events, sink_events};
 ghost use Rattle.xls_cmd.specs.Shared.Fault.{Fault as Cause};
-ghost use Rattle.xls_cmd.specs.Answer.{expected, expected_of, expected_of_opt, expected_of_run, expected_of_schedule, files_of, files_of_opt, files_of_schedule, named_files, status_for};
+ghost use Rattle.xls_cmd.specs.Answer.{expected, expected_of, expected_of_opt, expected_of_run, expected_of_schedule, expected_of_verilog, files_of, files_of_opt, files_of_schedule, files_of_verilog, named_files, status_for};
 ghost use Rattle.xls_cmd.specs.Design.Commands.{run_files};
 ghost use Rattle.xls_cmd.specs.Workers.{IsLeftToWorkers, has_workers, is_by_workers, wants_workers};
 ghost use Rattle.cmd_line.specs.Bounds.{IsInBounds, IsWorkerCount};
-ghost use Rattle.cmd_line.specs.Named.{named, named_opt, named_run, named_schedule};
+ghost use Rattle.cmd_line.specs.Named.{named, named_opt, named_run, named_schedule, named_verilog};
 
 use crate::design::{check_design, run_design, run_design_alone};
 use crate::ir::{run_package, run_package_alone};
@@ -17,7 +17,8 @@ use crate::opt::opt_ir;
 use crate::schedule::schedule_ir;
 use crate::shared::{Fault, Refusal, respond};
 use crate::sim::sim_design;
-use cmd_line::{Opt, Request, Run, Schedule, Source, read_words};
+use crate::verilog::verilog_ir;
+use cmd_line::{Opt, Request, Run, Schedule, Source, Verilog, read_words};
 use std::alloc::Global;
 use std::sync::Wait;
 use std::thread::Threads;
@@ -139,6 +140,7 @@ fn requested_alone<'a, F: Files>(
         Request::Sim(arguments) => Some(sim_design(alloc, files, arguments)),
         Request::Schedule(arguments) => Some(schedule(alloc, files, arguments)),
         Request::Opt(arguments) => Some(opt(alloc, files, arguments)),
+        Request::Verilog(arguments) => Some(verilog(alloc, files, arguments)),
     }
 }
 
@@ -211,6 +213,7 @@ fn requested<'a, R: Threads + Wait + Sync, F: Files, G: Gate + Sync>(
         Request::Sim(arguments) => sim_design(alloc, files, arguments),
         Request::Schedule(arguments) => schedule(alloc, files, arguments),
         Request::Opt(arguments) => opt(alloc, files, arguments),
+        Request::Verilog(arguments) => verilog(alloc, files, arguments),
     }
 }
 
@@ -260,5 +263,21 @@ fn opt<'a, F: Files>(
     match arguments.source {
         Source::Dslx => Err(Refusal::Fault(Fault::Usage)),
         Source::Ir => opt_ir(alloc, files, arguments),
+    }
+}
+
+/// The Verilog of an IR text.
+fn verilog<'a, F: Files>(
+    alloc: Global,
+    files: &mut F,
+    arguments: Verilog<&'a str>,
+) -> Result<Vec<u8>, Refusal<'a>>
+    requires { 1 ≤ arguments.timing.stages }
+    ensures { IsDone (λ text. text.items) (expected_of_verilog (named_verilog arguments.entry) (F.told files.old)) (files_of_verilog (named_verilog arguments.entry))
+        (file_events F.asked F.faults F.taken files.old files.new) result }
+{
+    match arguments.source {
+        Source::Dslx => Err(Refusal::Fault(Fault::Usage)),
+        Source::Ir => verilog_ir(alloc, files, arguments),
     }
 }

@@ -18,7 +18,7 @@ use Rattle.pipe_schedule.specs.declared.package.Infeasible.{Infeasible}
 use Rattle.pipe_schedule.specs.Packages.{AreSchedules, IsFirstInfeasible}
 use Rattle.pipe_schedule.specs.Text.Text.{schedule_text}
 use Rattle.pipe_schedule.specs.Text.Infeasible.{infeasible_text}
-use Rattle.xls_cmd.specs.Schedule.Commands.{GivesSchedules, fits, infeasible, demands_of, schedule, schedule_loaded}
+use Rattle.xls_cmd.specs.Schedule.Commands.{GivesSchedules, HasSchedules, fits, infeasible, demands_of, schedule, schedule_loaded}
 
 -- the laws below
 pub record TheLaws : Type 0 where
@@ -27,21 +27,25 @@ pub record TheLaws : Type 0 where
   pub first : (procs : List Proc) (demands : Demands) (e f : Infeasible) → IsFirstInfeasible procs demands e → IsFirstInfeasible procs demands f → (e.cause ≡ OutOfMemory → ⊥) → (f.cause ≡ OutOfMemory → ⊥) → e ≡ f
   pub either : (procs : List Proc) (demands : Demands) (schedules : List Schedule) (e : Infeasible) → AreSchedules procs demands schedules → IsFirstInfeasible procs demands e → e.cause ≡ OutOfMemory
 
-package_is_one : TheLaws → (name bytes : List ℕ) → IsOne (ReadsPackage name bytes)
+pub package_is_one : TheLaws → (name bytes : List ℕ) → IsOne (ReadsPackage name bytes)
 package_is_one laws name bytes =
     then_is_one (Gives (text_of name bytes)) (λ text. OfText name (GivesPackage text)) (gives_is_one (text_of name bytes)) (λ text. of_text_is_one name (GivesPackage text) (laws.read text))
 
-schedules_are_one : TheLaws → (ir : Package) (demands : Demands) → IsOne (GivesSchedules ir demands)
-schedules_are_one laws ir demands a b (fits x is) (fits y also) = ap (λ (s : List Schedule). Ok (schedule_text ir s)) (laws.list ir.procs demands x y is also)
+pub schedules_are_one : TheLaws → (ir : Package) (demands : Demands) → IsOne (HasSchedules ir demands)
+schedules_are_one laws ir demands a b (fits x is) (fits y also) = ap Ok (laws.list ir.procs demands x y is also)
 schedules_are_one laws ir demands a b (fits x is) (infeasible f also some) = absurd (some (laws.either ir.procs demands x f is also))
 schedules_are_one laws ir demands a b (infeasible e is some) (fits y also) = absurd (some (laws.either ir.procs demands y e also is))
 schedules_are_one laws ir demands a b (infeasible e is some) (infeasible f also more) =
     ap (λ (x : Infeasible). Err (fault.Infeasible (infeasible_text ir demands x))) (laws.first ir.procs demands e f is also some more)
 
+texts_are_one : TheLaws → (ir : Package) (demands : Demands) → IsOne (GivesSchedules ir demands)
+texts_are_one laws ir demands =
+    then_is_one (HasSchedules ir demands) (λ schedules. Gives (Ok (schedule_text ir schedules))) (schedules_are_one laws ir demands) (λ schedules. gives_is_one (Ok (schedule_text ir schedules)))
+
 loaded_is_one : TheLaws → (arguments : Said (List ℕ)) (bytes : List ℕ) → IsOne (schedule_loaded arguments bytes)
 loaded_is_one laws arguments bytes =
     then_is_one (ReadsPackage arguments.design bytes) (λ ir. GivesSchedules ir (demands_of arguments.timing)) (package_is_one laws arguments.design bytes)
-    (λ ir. schedules_are_one laws ir (demands_of arguments.timing))
+    (λ ir. texts_are_one laws ir (demands_of arguments.timing))
 
 pub schedule_is_one : TheLaws → (holds : Contents) (arguments : Said (List ℕ)) → IsOne (schedule holds arguments)
 schedule_is_one laws holds arguments =

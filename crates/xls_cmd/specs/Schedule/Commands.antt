@@ -3,7 +3,7 @@ use Rattle.std.specs.Prelude.{◌≡◌, ℕ, List, [], ◌∷◌, Result, Ok, E
 use Rattle.xb_io.specs.Contents.{Contents}
 use Rattle.xls_cmd.specs.Shared.Fault.{Fault}
 use Rattle.xls_cmd.specs.declared.shared.fault.Fault.TheVariants as fault
-use Rattle.xls_cmd.specs.Shared.Step.{Step, Then}
+use Rattle.xls_cmd.specs.Shared.Step.{Step, Then, Gives}
 use Rattle.xls_cmd.specs.Shared.Loads.{Loads}
 use Rattle.cmd_line.specs.declared.request.Schedule.{Schedule as Said}
 use Rattle.cmd_line.specs.declared.request.Timing.{Timing}
@@ -17,10 +17,14 @@ use Rattle.pipe_schedule.specs.Packages.{AreSchedules, IsFirstInfeasible}
 use Rattle.pipe_schedule.specs.Text.Text.{schedule_text}
 use Rattle.pipe_schedule.specs.Text.Infeasible.{infeasible_text}
 
--- what is written of a package all of whose procs have schedules; else the line of the first that has none
-pub data GivesSchedules (ir : Package) (demands : Demands) : Result (List ℕ) Fault → Type 0 where
-  fits : (schedules : List Schedule) → AreSchedules ir.procs demands schedules → GivesSchedules ir demands (Ok (schedule_text ir schedules))
-  infeasible : (found : Infeasible) → IsFirstInfeasible ir.procs demands found → (found.cause ≡ OutOfMemory → ⊥) → GivesSchedules ir demands (Err (fault.Infeasible (infeasible_text ir demands found)))
+-- the schedules of all procs; else the line of the first that has none
+pub data HasSchedules (ir : Package) (demands : Demands) : Result (List Schedule) Fault → Type 0 where
+  fits : (schedules : List Schedule) → AreSchedules ir.procs demands schedules → HasSchedules ir demands (Ok schedules)
+  infeasible : (found : Infeasible) → IsFirstInfeasible ir.procs demands found → (found.cause ≡ OutOfMemory → ⊥) → HasSchedules ir demands (Err (fault.Infeasible (infeasible_text ir demands found)))
+
+-- what is written of them
+abbrev pub GivesSchedules : Package → Demands → Step (List ℕ)
+GivesSchedules ir demands = Then (HasSchedules ir demands) (λ schedules. Gives (Ok (schedule_text ir schedules)))
 
 -- what the words ask of schedules
 abbrev pub demands_of : Timing → Demands

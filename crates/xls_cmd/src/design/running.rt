@@ -74,7 +74,7 @@ pub fn run_text_alone<B: Body>(
 }
 
 /// The depth that each channel of a network has, 1 at least: where the arguments have one, that is the depth of inner channels.
-fn depths(alloc: Global, net: &Net, arguments: Option<u32>) -> Result<Vec<u32>, AllocError>
+pub fn depths(alloc: Global, net: &Net, arguments: Option<u32>) -> Result<Vec<u32>, AllocError>
     ensures depths { IfOk result (λ depths. depths.items ≡ depths_by arguments net.now) }
     ensures fit { IfOk result (λ depths. IsDepths net.now depths.items) }
 {

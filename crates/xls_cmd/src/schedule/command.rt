@@ -1,14 +1,14 @@
-ghost use Rattle.std.specs.Prelude.{◌<◌, ◌≤◌, ◌^◌, Ok, length, IfOk, IfErr};
+ghost use Rattle.std.specs.Prelude.{◌≡◌, ◌<◌, ◌≤◌, ◌^◌, Ok, length, IfOk, IfErr};
 ghost use Rattle.xls_cmd.specs.Shared.Done.{IsDone, StopsBy};
 ghost use Rattle.xls_cmd.specs.Shared.Events.{file_events};
 ghost use Rattle.xls_cmd.specs.Shared.Step.{ExpectedBy};
 ghost use Rattle.cmd_line.specs.Named.{named_schedule};
-ghost use Rattle.xls_cmd.specs.Schedule.Commands.{schedule, schedule_files, schedule_loaded};
+ghost use Rattle.xls_cmd.specs.Schedule.Commands.{demands_of, schedule, schedule_files, schedule_loaded};
 
 use crate::ir::read_package;
 use crate::schedule::scheduling::scheduled;
 use crate::shared::{Refusal, load};
-use cmd_line::Schedule;
+use cmd_line::{Schedule, Timing};
 use pipe_schedule::Demands;
 use std::alloc::Global;
 use xb_io::Files;
@@ -40,10 +40,16 @@ fn schedule_loaded<'a>(
     ensures refused { IfErr result (StopsBy (schedule_loaded (named_schedule arguments.now) bytes.now)) }
 {
     let ir = read_package(alloc, arguments.design, bytes)?;
-    let demands = Demands {
-        clock: arguments.timing.clock,
-        stages: arguments.timing.stages,
-        interval: arguments.timing.interval,
-    };
-    scheduled(alloc, &ir, demands)
+    scheduled(alloc, &ir, demands_of(arguments.timing))
+}
+
+/// What the words ask of schedules.
+pub fn demands_of(timing: Timing) -> Demands
+    ensures { result ≡ demands_of timing }
+{
+    Demands {
+        clock: timing.clock,
+        stages: timing.stages,
+        interval: timing.interval,
+    }
 }

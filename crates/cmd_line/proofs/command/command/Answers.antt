@@ -3,7 +3,7 @@ use Rattle.std.specs.Prelude.{codes}
 use Rattle.clap.specs.Words.{app_of, new_app, with_subcommand}
 use Rattle.clap.specs.Simple.{app_of_fields}
 use Rattle.cmd_line.proofs.command.command.Goals as goal
-use Rattle.cmd_line.specs.CommandLine.{xls, check, run, sim, schedule, opt, bare}
+use Rattle.cmd_line.specs.CommandLine.{xls, check, run, sim, schedule, opt, verilog, bare}
 
 pub returns : goal.returns
 unfolding xls
@@ -13,4 +13,5 @@ returns c =
     let second = c.with_subcommand-xls-2.ensures _ run first c.run.ensures.app c.run.ensures.local in
     let third = c.with_subcommand-xls-3.ensures _ sim second c.sim.ensures.app c.sim.ensures.local in
     let fourth = c.with_subcommand-xls-4.ensures _ schedule third c.schedule.ensures.app c.schedule.ensures.local in
-    c.with_subcommand.ensures _ opt fourth c.opt.ensures.app c.opt.ensures.local
+    let fifth = c.with_subcommand-xls-5.ensures _ opt fourth c.opt.ensures.app c.opt.ensures.local in
+    c.with_subcommand.ensures _ verilog fifth c.verilog.ensures.app c.verilog.ensures.local

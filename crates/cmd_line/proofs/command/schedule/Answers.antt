@@ -1,7 +1,7 @@
-use Rattle.cmd_line.specs.CommandLine.{from, interval, plain_schedule}
+use Rattle.std.specs.Prelude.{codes}
+use Rattle.cmd_line.specs.CommandLine.{from, scheduling}
 use Rattle.cmd_line.proofs.command.schedule.Goals as goal
 
 pub returns-clause-app : goal.returns-clause-app
 returns-clause-app c =
-    let first = c.with_arg-built.ensures.app plain_schedule interval c.plain_schedule-built.ensures.app c.interval.ensures.rule c.interval.ensures.local in
-    c.with_arg.ensures.app _ from first c.from.ensures.rule c.from.ensures.local
+    c.with_arg.ensures.app (scheduling (codes "schedule")) from c.scheduling-built.ensures.app c.from.ensures.rule c.from.ensures.local

@@ -9,6 +9,7 @@ returns-clause-one c = expected_is_one (record {
   sim = c.one_answer-3.ensures;
   schedule_ir = c.one_answer-4.ensures;
   opt_ir = c.answers_agree.ensures;
+  verilog_ir = c.answers_agree-2.ensures;
 })
 
 pub returns-clause-agrees : goal.returns-clause-agrees
@@ -19,4 +20,5 @@ returns-clause-agrees c = expected_agrees (record {
   sim = c.one_answer-3.ensures;
   schedule_ir = c.one_answer-4.ensures;
   opt_ir = c.answers_agree.ensures;
+  verilog_ir = c.answers_agree-2.ensures;
 })

@@ -1,5 +1,6 @@
-use Rattle.std.proofs.Common.{Ok}
+use Rattle.std.proofs.Common.{Ok, ◌≤◌, subst, sym}
 use Rattle.std.proofs.lemmas.Result.{IfOk-weaker, IfErr-weaker}
+use Rattle.pipe_schedule.specs.declared.schedule.Demands.{Demands}
 use Rattle.xls_cmd.specs.Shared.Done.{StopsBy}
 use Rattle.xls_cmd.specs.Shared.Step.{goes_on}
 use Rattle.xls_cmd.proofs.Lemmas.Shared.{stops_in_first, stops_in_next, err_handed}
@@ -13,12 +14,17 @@ returns-in_err-ir-clause-refused c =
     err_handed c.from_residual.result c.in_err-ir.field-0.0 (StopsBy (schedule_loaded (named_schedule c.args.arguments.now) c.args.bytes.now)) c.from_residual.ensures.1
     (stops_in_first (ReadsPackage c.args.arguments.now.design.now c.args.bytes.now) (λ ir. GivesSchedules ir (demands_of c.args.arguments.now.timing)) c.in_err-ir.field-0.0 c.in_err-ir.ensures.refused)
 
+pub scheduled-requires-clause-some : goal.scheduled-requires-clause-some
+scheduled-requires-clause-some c = subst (λ (demands : Demands). 1 ≤ demands.stages) (sym c.demands_of.ensures) c.requires.some
+
 pub returns-clause-gives : goal.returns-clause-gives
 returns-clause-gives c =
-    IfOk-weaker c.scheduled.result _ _ (λ text is. goes_on c.in_ok-ir.ir (Ok text.items) c.in_ok-ir.ensures.reads is) c.scheduled.ensures.gives
+    IfOk-weaker c.scheduled.result _ _ (λ text is. goes_on c.in_ok-ir.ir (Ok text.items) c.in_ok-ir.ensures.reads (subst (λ (demands : Demands). GivesSchedules c.in_ok-ir.ir demands (Ok text.items)) c.demands_of.ensures is))
+    c.scheduled.ensures.gives
 
 pub returns-clause-refused : goal.returns-clause-refused
 returns-clause-refused c =
     IfErr-weaker c.scheduled.result _ _
-    (λ r stop. stops_in_next (ReadsPackage c.args.arguments.now.design.now c.args.bytes.now) (λ ir. GivesSchedules ir (demands_of c.args.arguments.now.timing)) c.in_ok-ir.ir r c.in_ok-ir.ensures.reads stop)
+    (λ r stop. stops_in_next (ReadsPackage c.args.arguments.now.design.now c.args.bytes.now) (λ ir. GivesSchedules ir (demands_of c.args.arguments.now.timing)) c.in_ok-ir.ir r c.in_ok-ir.ensures.reads
+    (subst (λ (demands : Demands). StopsBy (GivesSchedules c.in_ok-ir.ir demands) r) c.demands_of.ensures stop))
     c.scheduled.ensures.refused

@@ -1,0 +1,24 @@
+use Rattle.std.proofs.Common.{Ok}
+use Rattle.std.proofs.lemmas.Result.{IfOk-weaker, IfErr-weaker}
+use Rattle.xls_cmd.specs.Shared.Done.{StopsBy}
+use Rattle.xls_cmd.specs.Shared.Step.{goes_on}
+use Rattle.xls_cmd.proofs.Lemmas.Shared.{stops_in_first, stops_in_next, err_handed}
+use Rattle.cmd_line.specs.Named.{named_verilog}
+use Rattle.xls_cmd.specs.Ir.Commands.{ReadsPackage}
+use Rattle.xls_cmd.specs.Verilog.Commands.{GivesVerilog, verilog_loaded}
+use Rattle.xls_cmd.proofs.verilog.command.verilog_loaded.Goals as goal
+
+pub returns-in_err-ir-clause-refused : goal.returns-in_err-ir-clause-refused
+returns-in_err-ir-clause-refused c =
+    err_handed c.from_residual.result c.in_err-ir.field-0.0 (StopsBy (verilog_loaded (named_verilog c.args.arguments.now) c.args.bytes.now)) c.from_residual.ensures.1
+    (stops_in_first (ReadsPackage c.args.arguments.now.design.now c.args.bytes.now) (λ ir. GivesVerilog (named_verilog c.args.arguments.now) ir) c.in_err-ir.field-0.0 c.in_err-ir.ensures.refused)
+
+pub returns-clause-gives : goal.returns-clause-gives
+returns-clause-gives c =
+    IfOk-weaker c.verilog_of.result _ _ (λ text is. goes_on c.in_ok-ir.ir (Ok text.items) c.in_ok-ir.ensures.reads is) c.verilog_of.ensures.gives
+
+pub returns-clause-refused : goal.returns-clause-refused
+returns-clause-refused c =
+    IfErr-weaker c.verilog_of.result _ _
+    (λ r stop. stops_in_next (ReadsPackage c.args.arguments.now.design.now c.args.bytes.now) (λ ir. GivesVerilog (named_verilog c.args.arguments.now) ir) c.in_ok-ir.ir r c.in_ok-ir.ensures.reads stop)
+    c.verilog_of.ensures.refused

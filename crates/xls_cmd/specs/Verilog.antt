@@ -1,0 +1,2 @@
+-- the command, and the file that it names
+pub mod Commands
