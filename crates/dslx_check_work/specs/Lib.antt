@@ -4,3 +4,7 @@ pub mod Text
 pub mod Tables
 -- what is learnt
 pub mod Learnt
+-- global environments that have of each item what its text comes to
+pub mod Settled
+-- what is judged
+pub mod Comes

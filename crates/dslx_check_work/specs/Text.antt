@@ -27,6 +27,15 @@ are_cyclic_by reaching i j = i == j || same_group (slice_get reaching.groups.ite
 abbrev pub name_in : Module → ℕ → List ℕ
 name_in text i = (names_of text).item i
 
+-- it has of each name only what the text's item of that name is: the type that a type names, the value of a constant, the members of an enum
+pub record HasItemsByKind (text : Module) (known : GlobalEnv) : Type 0 where
+  pub whole : known.whole ≡ text
+  pub is_constant : (name : List ℕ) → known.items.is_constant name ≡ is_constant_item (item_named name known.whole.items)
+  pub not_type : (name : List ℕ) → names_type (item_named name known.whole.items) ≡ false → known.items.type_named name ≡ None
+  pub not_struct : (name : List ℕ) → as_struct (item_named name known.whole.items) ≡ None → known.items.struct_named name ≡ None
+  pub not_constant : (name : List ℕ) → as_constant (item_named name known.whole.items) ≡ None → known.items.constant name ≡ None
+  pub not_enum : (name member : List ℕ) → as_enum (item_named name known.whole.items) ≡ None → known.items.member name member ≡ None
+
 -- it is of the text, in which items of one name are told apart. It has nothing of items of another kind, and nothing of items that reach
 -- themselves; and its constants mean by the text alone what they mean by it, and have values of their types
 pub record IsTextEnv (text : Module) (reaching : Reaching) (known : GlobalEnv) : Type 0 where
