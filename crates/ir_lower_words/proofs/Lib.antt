@@ -1,0 +1,6 @@
+-- operations on words
+pub mod OnWords
+-- values that are written out
+pub mod OnLiterals
+-- for other crates' proofs
+pub mod Lemmas
