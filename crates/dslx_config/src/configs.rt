@@ -8,6 +8,7 @@ mod named;
 mod number;
 mod opening;
 mod outer;
+mod spawned;
 mod word;
 
 pub use child::instance_number;
@@ -16,3 +17,4 @@ pub use named::{find_proc, top_proc};
 pub use number::top_parametric_args;
 pub use opening::opening_there;
 pub use outer::outers_there;
+pub use spawned::spawned_there;

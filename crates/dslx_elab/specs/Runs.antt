@@ -32,6 +32,11 @@ pub record RunsText (m : Module) (top : Option (List ℕ)) (net : Net) (behavior
       → outcome_of (run_of (network_of m top) (behaviors_of m top) inputs n depths) (final_cut (run_of (network_of m top) (behaviors_of m top) inputs n depths))
       ≡ outcome_of (run_of net behaviors inputs n depths) (final_cut (run_of net behaviors inputs n depths))
 
+-- a checked text that is made of this text's instances, those of functions that are checked
+pub record IsMadeOfChecked (m : Module) (top : Option (List ℕ)) (design : Design) : Type 0 where
+  pub made : IsDesignFrom m top design
+  pub checked : AreOfChecked m top made.named_functions
+
 -- a checked text that is made of the instances of an accepted text, those of functions that are checked
 pub record IsOfAccepted (design : Design) : Type 0 where
   pub text : Module

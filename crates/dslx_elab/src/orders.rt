@@ -9,7 +9,7 @@ ghost use Rattle.dslx_core.specs.Lowering.Functions.{Instantiated};
 ghost use Rattle.dslx_core.specs.declared.design.Design.{Design};
 ghost use Rattle.dslx_elab.specs.Assembling.{Assembles};
 ghost use Rattle.dslx_elab.specs.Orders.{EndsWithTop, IsSpawnOrder};
-ghost use Rattle.dslx_elab.specs.Runs.{IsAcceptedText, IsOfAccepted};
+ghost use Rattle.dslx_elab.specs.Runs.{IsAcceptedText, IsMadeOfChecked, IsOfAccepted};
 
 /// Checked instances of an accepted text's procs, each once and behind those that it spawns, the top's at the end: the checked text of
 /// these is there (`Assembles`), where as many instances of functions are allowed as are checked.
@@ -25,8 +25,10 @@ pub fn ordered_instances_are_assembled()
 
 /// And the checked text of these is made of checked instances of functions alone, as `network_there` wants it (`IsOfAccepted`).
 pub fn ordered_instances_are_of_accepted()
-    ensures { (m : Module) (top : Option (List ℕ)) (p : Proc) (limit : ℕ) (wanted : List Instantiated) (design : Design) → IsAcceptedText m top → top_proc m top ≡ Some p → length (instances_of m top) ≤ limit
+    ensures accepted { (m : Module) (top : Option (List ℕ)) (p : Proc) (limit : ℕ) (wanted : List Instantiated) (design : Design) → IsAcceptedText m top → top_proc m top ≡ Some p → length (instances_of m top) ≤ limit
         → IsSpawnOrder m top [] wanted → Assembles m p limit wanted (Some design) → IsOfAccepted design }
+    ensures made { (m : Module) (top : Option (List ℕ)) (p : Proc) (limit : ℕ) (wanted : List Instantiated) (design : Design) → IsAcceptedText m top → top_proc m top ≡ Some p → length (instances_of m top) ≤ limit
+        → IsSpawnOrder m top [] wanted → Assembles m p limit wanted (Some design) → IsMadeOfChecked m top design }
 {
     dslx_total::configs::lower_total_configs();
     dslx_total::counts::networks_keep_the_limits();

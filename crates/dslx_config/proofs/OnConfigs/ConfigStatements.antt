@@ -10,7 +10,9 @@ use Rattle.dslx_meaning.specs.Network.{Held}
 use Rattle.dslx_core.specs.declared.design.Child.{Child}
 use Rattle.dslx_core.specs.declared.design.MadeChannel.{MadeChannel}
 use Rattle.dslx_core.specs.Lowering.CoreScopes.{CoreScope}
+use Rattle.dslx_core.specs.Lowering.Functions.{Instantiated}
 use Rattle.dslx_core.specs.Networks.Configs.{ProcInstance, lower_channel, lower_child, lower_children, lower_made}
+use Rattle.dslx_config.specs.Configs.Spawned.{spawned_instance, spawned_instances}
 use Rattle.dslx_config.proofs.OnConfigs.InOrder.{made_first, missing_first}
 
 -- ---- channels
@@ -43,3 +45,20 @@ module _ (m : Module) (scope : CoreScope) (ends : List Held) (procs : List ProcI
 
   pub channel_made : (c : Channel) → part ≡ config_statement.Channel c → (rest : List ConfigStatement) → lower_children m scope ends procs (part ∷ rest) ≡ lower_children m scope ends procs rest
   channel_made c is rest = ap (λ (n : ConfigStatement). lower_children m scope ends procs (n ∷ rest)) is
+
+-- ---- instances
+
+module _ (m : Module) (scope : CoreScope) (part : ConfigStatement) where
+  pub spawned_first : (s : Spawn) (i : Instantiated) → part ≡ config_statement.Spawn s → spawned_instance m scope s ≡ Some i
+      → (rest : List ConfigStatement) → spawned_instances m scope (part ∷ rest) ≡ put_first i (spawned_instances m scope rest)
+  spawned_first s i is comes rest =
+      ap (λ (n : ConfigStatement). spawned_instances m scope (n ∷ rest)) is
+      ∙ made_first (spawned_instance m scope s) i (spawned_instances m scope rest) comes
+
+  pub no_instance : (s : Spawn) → part ≡ config_statement.Spawn s → spawned_instance m scope s ≡ None → (rest : List ConfigStatement) → spawned_instances m scope (part ∷ rest) ≡ None
+  no_instance s is none rest =
+      ap (λ (n : ConfigStatement). spawned_instances m scope (n ∷ rest)) is
+      ∙ missing_first (spawned_instance m scope s) (spawned_instances m scope rest) none
+
+  pub channel_spawns_none : (c : Channel) → part ≡ config_statement.Channel c → (rest : List ConfigStatement) → spawned_instances m scope (part ∷ rest) ≡ spawned_instances m scope rest
+  channel_spawns_none c is rest = ap (λ (n : ConfigStatement). spawned_instances m scope (n ∷ rest)) is

@@ -1,0 +1,6 @@
+-- orders in which instances stand
+mod OnOrder
+-- instances that are added
+mod OnAdding
+-- the top's instance
+mod OnTop

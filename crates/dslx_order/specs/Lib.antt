@@ -1,0 +1,2 @@
+-- instances that are added behind those that they spawn
+pub mod Adding
