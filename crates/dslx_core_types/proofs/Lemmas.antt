@@ -5,5 +5,6 @@ pub use Rattle.dslx_core_types.proofs.OnWords.{IsWordIn, HasWordIn, typed_word, 
 pub use Rattle.dslx_core_types.proofs.OnLists.{typed_tuple, typed_array, part_typed, element_typed}
 pub use Rattle.dslx_core_types.proofs.OnShapes.{MayBind, Binds, IsPattern, is_shape, same_length, arm_fits, arm_keeps, certain_fits}
 pub use Rattle.dslx_core_types.proofs.OnExprs.{SoundBy, value_typed, expressions_sound}
+pub use Rattle.dslx_core_types.proofs.OnFlat.{value_fits}
 pub use Rattle.dslx_core_types.proofs.OnPatterns.{like_is, like_itself, binds_behind, first_behind}
 pub use Rattle.dslx_core_types.proofs.OnOpenings.{arm_of_core, type_literal, type_slot, type_tuple, type_array, type_unary, type_binary, type_cast, type_slice, type_part, type_element, type_index, type_update, type_bind, type_choose, type_select, type_loop, type_call, type_arm, binds_wild, binds_bound, binds_equal, binds_tuple}

@@ -1,5 +1,5 @@
 -- What a text names, and which items reach which.
-use Rattle.std.specs.Prelude.{ℕ, zero, suc, List, [], ◌∷◌, ◌++◌, ◌||◌, map, flat_map, Bool, true, false, Option, Some, None, length, if◌then◌else◌}
+use Rattle.std.specs.Prelude.{ℕ, zero, suc, List, [], ◌∷◌, ◌++◌, ◌&&◌, ◌||◌, map, flat_map, Bool, true, false, Option, Some, None, length, if◌then◌else◌}
 use Rattle.std.specs.Str.{bytes_eq}
 use Rattle.std.specs.List.{list_any}
 use Rattle.dslx_tree.specs.declared.block.Stmt.TheOpen.{Stmt-F, Node-F, Shape-F, TypeNode-F}
@@ -292,6 +292,6 @@ reaches_within m (suc n) from to = list_any (λ next. bytes_eq next to || reache
 abbrev pub item_reaches : Module → List ℕ → List ℕ → Bool
 item_reaches m from to = reaches_within m (length m.items) from to
 
--- a use in the text of an item of an item that is the same or reaches it, which rule 3 refuses
+-- whether two items are the same, or each reaches the other: a use of the one in the text of the other lies on a cycle, which rule 3 refuses
 abbrev pub is_cyclic : Module → List ℕ → List ℕ → Bool
-is_cyclic m owner target = bytes_eq target owner || item_reaches m target owner
+is_cyclic m owner target = bytes_eq target owner || (item_reaches m target owner && item_reaches m owner target)

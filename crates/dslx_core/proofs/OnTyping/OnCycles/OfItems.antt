@@ -36,8 +36,8 @@ use Rattle.dslx_meaning.specs.Rules.NodeRules.{block_pair, expr_pair, typing_ste
 use Rattle.dslx_meaning.specs.Rules.Typings.{typing_sorts}
 use Rattle.dslx_meaning.specs.Rules.TypeEnvs.{breaks_if, ExprPair, GlobalEnv, Instance, Judgement, TypeEnv, Typed, has_broken, span_of, typed_in, unless_broken, untyped_of, with_typed, within}
 use Rattle.dslx_core.specs.Typing.TypingRelations.Cycles.{AllUsed, IsBehindNames}
-use Rattle.dslx_core.proofs.Lemmas.Typing.Laws.Chains.{any_weaker, or_cases, or_first, or_second}
-use Rattle.dslx_core.proofs.Lemmas.Typing.Laws.Reaching.{reaches_bounded}
+use Rattle.dslx_core.proofs.Lemmas.Typing.Laws.Chains.{any_of_each, or_cases, or_first, or_second}
+use Rattle.dslx_core.proofs.Lemmas.Typing.Laws.Reaching.{reaches_bounded, reaches_mentioned}
 use Rattle.dslx_core.proofs.OnTyping.OnCycles.Bare.{bare_mentions_nothing}
 use Rattle.dslx_core.proofs.OnTyping.OnCycles.Joined.{block_of_text_judged, expression_judged, written_type_judged}
 use Rattle.dslx_core.proofs.OnTyping.OnCycles.Parts.{constant_inside, front, in_neither, join, join_three, unmarked}
@@ -50,7 +50,7 @@ use Rattle.dslx_core.proofs.OnTyping.OnTyping.OfItems.{cyclic_is, item_so_named,
 
 -- ---- a test that items of a cycle don't pass
 
--- the use is of an item that the owner is, or that reaches it
+-- the use is of no item that the owner is, or that reaches it and is reached by it
 abbrev pub uses_freely : Module → List ℕ → Use → List ℕ → Bool
 uses_freely m owner u name = not (is_of_use u (item_named name m.items) && is_cyclic m owner name)
 
@@ -88,12 +88,13 @@ none_cyclic m owner (x ∷ ms) h = by_use (is_of_use x.use_as (item_named x.name
     by_use true e rest = λ i. cyclic_no (is_cyclic m owner x.name) e i || rest i
     by_use false e rest = rest
 
--- an item that reaches itself mentions one that is the same or reaches it
+-- an item that reaches itself mentions one that is the same or reaches it back
 some_cyclic : (m : Module) (owner : List ℕ) (n : ℕ) → reaches_within m n owner owner ≡ true → list_any (is_cyclic m owner) (mentions_of m (item_named owner m.items)) ≡ true
 some_cyclic m owner zero e = absurd (true≢false (sym e))
 some_cyclic m owner (suc n) e =
-    any_weaker (λ next. bytes_eq next owner || reaches_within m n next owner) (is_cyclic m owner) (mentions_of m (item_named owner m.items))
-    (λ x q. or_cases (bytes_eq x owner) (reaches_within m n x owner) q (or_first (bytes_eq x owner) (item_reaches m x owner)) (λ r. or_second (bytes_eq x owner) (item_reaches m x owner) (reaches_bounded m n x owner r))) e
+    any_of_each (λ next. bytes_eq next owner || reaches_within m n next owner) (is_cyclic m owner) (mentions_of m (item_named owner m.items))
+    (λ x there q. or_cases (bytes_eq x owner) (reaches_within m n x owner) q (or_first (bytes_eq x owner) (item_reaches m x owner && item_reaches m owner x))
+    (λ r. or_second (bytes_eq x owner) (item_reaches m x owner && item_reaches m owner x) (λ i. reaches_bounded m n x owner r i && reaches_mentioned m owner x there i))) e
 
 pub not_all_pass : {X : Type 0} (m : Module) (owner : List ℕ) (x : Definition) → item_named owner m.items ≡ Some x → item_reaches m owner owner ≡ true → AllUsed (uses_freely m owner) (definition_mentions x) → X
 not_all_pass m owner x e loops h =

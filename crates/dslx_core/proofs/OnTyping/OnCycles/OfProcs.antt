@@ -30,7 +30,7 @@ use Rattle.dslx_core.proofs.Lemmas.Typing.Laws.Reaching.{any_elim}
 use Rattle.dslx_core.proofs.OnTyping.OnCycles.OfItems.{not_all_pass, unless_whole, uses_freely}
 use Rattle.dslx_core.proofs.OnTyping.OnCycles.Parts.{front, join, join_three}
 use Rattle.dslx_core.proofs.OnTyping.OnDepends.NoProcs.{NoProcs, no_proc_in_arg, no_proc_in_block, no_proc_in_type, no_procs_join}
-use Rattle.dslx_core.proofs.OnTyping.OnDepends.Stages.{definition_none, is_proc_item, no_proc_use, not_true, parametrics_none}
+use Rattle.dslx_core.proofs.OnTyping.OnDepends.Stages.{and_both, definition_none, is_proc_item, no_proc_use, not_true, parametrics_none}
 use Rattle.dslx_core.proofs.OnTyping.OnTyped.TypingRelations.{rule_holds, unbroken_parts}
 use Rattle.dslx_core.proofs.OnTyping.OnTyping.OfItems.{cyclic_is, item_so_named, proc_is, whole_is}
 
@@ -78,7 +78,8 @@ module _ (m : Module) (n : ℕ) (owner : List ℕ) (p : Proc) (named : item_name
       by_test : (b : Bool) → is_cyclic m owner name ≡ b → is_cyclic m owner name ≡ false
       by_test false q = q
       by_test true q =
-          never (or_cases (bytes_eq name owner) (item_reaches m name owner) q (λ s. subst (λ z. is_proc_item (item_named z m.items) ≡ false) (same_name name owner s) e) (reaches_no_proc m (length m.items) name owner e))
+          never (or_cases (bytes_eq name owner) (item_reaches m name owner && item_reaches m owner name) q (λ s. subst (λ z. is_proc_item (item_named z m.items) ≡ false) (same_name name owner s) e)
+          (λ s. reaches_no_proc m (length m.items) name owner e (and_both (item_reaches m name owner) (item_reaches m owner name) s).0))
 
   one_passes : (u : Use) (name : List ℕ) → (is_of_use u (item_named name m.items) ≡ true → not (is_proc_item (item_named name m.items)) ≡ true) → Q u name ≡ true
   one_passes u name h = by_use (is_of_use u (item_named name m.items)) refl

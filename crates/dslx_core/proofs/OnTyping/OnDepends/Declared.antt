@@ -16,12 +16,13 @@ use Rattle.dslx_tree.specs.declared.process.Proc.{Proc}
 use Rattle.dslx_tree.specs.declared.type_expr.TypeExpr.{TypeExpr}
 use Rattle.dslx_meaning.specs.Environment.{Given}
 use Rattle.dslx_meaning.specs.Items.{is_constant_item, item_named}
-use Rattle.dslx_meaning.specs.Rules.ConstantRules.{ConstantSeen, constant_of}
+use Rattle.dslx_meaning.specs.Lists.{and_then}
+use Rattle.dslx_meaning.specs.Rules.ConstantRules.{ConstantSeen, constant_of, constant_typing}
 use Rattle.dslx_meaning.specs.Rules.ItemRules.{result_typing, typing_of_type}
 use Rattle.dslx_meaning.specs.Rules.Mentions.{AsEnum, Mention, config_statement_mentions, definition_mentions, ends_mentions, expr_if, fields_mentions, is_cyclic, is_of_use, item_reaches, mentioned, mentioned_in_block, mentioned_in_type, names_mentioned, parametric_names, parametrics_mentions, type_if}
 use Rattle.dslx_meaning.specs.Rules.ModuleRules.{declared_type, default_if, globals_over}
 use Rattle.dslx_meaning.specs.Rules.NodeRules.{expr_pair}
-use Rattle.dslx_meaning.specs.Rules.TypeEnvs.{GlobalEnv, Judgement, has_broken, span_of, within}
+use Rattle.dslx_meaning.specs.Rules.TypeEnvs.{GlobalEnv, Judgement, TypeEnv, has_broken, span_of, within}
 use Rattle.dslx_meaning.specs.Rules.TypeRules.{unless_unit}
 use Rattle.dslx_core.specs.Typing.Depends.Alike.{HiddenAlike, NamesAlike, SeesAlike, TypesAlike}
 use Rattle.dslx_core.specs.Typing.TypingRelations.Cycles.{AllUsed}
@@ -34,7 +35,7 @@ use Rattle.dslx_core.proofs.OnTyping.OnCycles.Parts.{constant_inside, unmarked}
 use Rattle.dslx_core.proofs.OnTyping.OnCycles.Untyped.{broken_constant_is_none, broken_type_is_none}
 use Rattle.dslx_core.proofs.OnTyping.OnDepends.OfItems as of
 use Rattle.dslx_core.proofs.OnTyping.OnDepends.OfItems.{FunctionParts, LeftMentioned, Sight, Stage, den_parts, first_mentioned, function_parts, left_mentioned, mentions_alike, plain_at}
-use Rattle.dslx_core.proofs.OnTyping.OnDepends.Parametrics.{AreBound, Covers, env_behind, types_alike}
+use Rattle.dslx_core.proofs.OnTyping.OnDepends.Parametrics.{AreBound, Covers, SameDefault, env_behind, types_alike}
 use Rattle.dslx_core.proofs.OnTyping.OnDepends.NoProcs.{NoProcs, no_proc_in_type, no_procs_join}
 use Rattle.dslx_core.proofs.OnTyping.OnDepends.Stages.{all_no_procs, and_both, definition_none, is_proc_item, no_proc_use, not_true, parametrics_none, unless_proc}
 use Rattle.dslx_core.proofs.OnTyping.OnTyping.Closed.{all_weaker}
@@ -52,7 +53,8 @@ beside_or m P owner name = is_beside m owner name || P name
 pub loops_beside : (m : Module) (owner name : List ℕ) → is_beside m owner name ≡ true → item_reaches m name name ≡ true
 loops_beside m owner name e =
     let r = and_both (item_reaches m owner name) (is_cyclic m owner name) e in
-    or_cases (bytes_eq name owner) (item_reaches m name owner) r.1 (λ s. subst (λ z. item_reaches m z name ≡ true) (sym (same_name name owner s)) r.0) (λ q. reaches_on m name owner name q r.0)
+    or_cases (bytes_eq name owner) (item_reaches m name owner && item_reaches m owner name) r.1 (λ s. subst (λ z. item_reaches m z name ≡ true) (sym (same_name name owner s)) r.0)
+    (λ q. reaches_on m name owner name (and_both (item_reaches m name owner) (item_reaches m owner name) q).0 r.0)
 
 -- of items that pass the second test all that they reach passes the first one, where it is no proc and doesn't reach them back
 abbrev pub LowPass : Module → (List ℕ → Bool) → (List ℕ → Bool) → Type 0
@@ -63,6 +65,14 @@ pub record Reads (m : Module) (known : GlobalEnv) : Type 0 where
   pub whole : known.whole ≡ m
   pub kinds : (name : List ℕ) → known.items.is_constant name ≡ is_constant_item (item_named name m.items)
   pub cyclic : (owner name : List ℕ) → known.is_cyclic owner name ≡ is_cyclic m owner name
+
+-- one value and one type
+abbrev SameConstant : ConstantSeen → ConstantSeen → Type 0
+SameConstant x y = (x.value ≡ y.value) × (x.judgement.ty ≡ y.judgement.ty)
+
+-- without a value it has no type
+untyped_without : (context : TypeEnv) (x : Expr) → (constant_of context (expr_pair x)).value ≡ None → (constant_of context (expr_pair x)).judgement.ty ≡ None
+untyped_without context x e = ap (λ v. and_then v (λ w. (constant_typing context (expr_pair x)).ty)) e
 
 -- the words of ends mention no proc
 ends_none : (es : List End) (bound : List (List ℕ)) → NoProcs (ends_mentions es bound)
@@ -99,7 +109,7 @@ module _ (m : Module) (P Q : List ℕ → Bool) (closed : IsClosed P m) (low : L
   mentioned_so owner h ms none e = all_weaker (unless_proc (item_reaches m owner) m) (T owner) so (names_mentioned m ms) (all_no_procs (item_reaches m owner) m ms none e)
     where
       by_back : (y : List ℕ) → item_reaches m owner y ≡ true → is_proc_item (item_named y m.items) ≡ false → (back : Bool) → item_reaches m y owner ≡ back → T owner y ≡ true
-      by_back y r plain true q = or_first (is_beside m owner y) (P y) (λ t. r t && or_second (bytes_eq y owner) (item_reaches m y owner) q t)
+      by_back y r plain true q = or_first (is_beside m owner y) (P y) (λ t. r t && or_second (bytes_eq y owner) (item_reaches m y owner && item_reaches m owner y) (λ j. q j && r j) t)
       by_back y r plain false q = or_second (is_beside m owner y) (P y) (low owner y h r q plain)
 
       so : (y : List ℕ) → unless_proc (item_reaches m owner) m y ≡ true → T owner y ≡ true
@@ -149,7 +159,7 @@ module _ (m : Module) (P Q : List ℕ → Bool) (closed : IsClosed P m) (low : L
       by_broken true true v w = broken_type_is_none x (env_behind A owner given unknown) v ∙ sym (broken_type_is_none x (env_behind B owner given unknown) w)
 
   value_of : (owner : List ℕ) → Q owner ≡ true → (bound : List (List ℕ)) → (x : Expr) → ExprDen owner (mentioned x bound) → (given : List Given) (unknown : List (List ℕ)) → Covers bound given unknown → HiddenAlike bound (env_behind A owner given unknown) B
-      → (constant_of (env_behind A owner given unknown) (expr_pair x)).value ≡ (constant_of (env_behind B owner given unknown) (expr_pair x)).value
+      → SameConstant (constant_of (env_behind A owner given unknown) (expr_pair x)) (constant_of (env_behind B owner given unknown) (expr_pair x))
   value_of owner h bound x e given unknown c n = by_broken (has_broken one.judgement.faults) (has_broken two.judgement.faults) refl refl
     where
       one : ConstantSeen
@@ -158,22 +168,27 @@ module _ (m : Module) (P Q : List ℕ → Bool) (closed : IsClosed P m) (low : L
       two : ConstantSeen
       two = constant_of (env_behind B owner given unknown) (expr_pair x)
 
-      same : AllUsed (uses_freely m owner) (mentioned x bound) → one.value ≡ two.value
-      same u = ap (λ (z : ConstantSeen). z.value) (of.constant_behind P Q (λ owner. P) m A B below_sight owner h bound x (below owner (mentioned x bound) e u) given unknown [] n)
+      same : AllUsed (uses_freely m owner) (mentioned x bound) → SameConstant one two
+      same u =
+          let c = of.constant_behind P Q (λ owner. P) m A B below_sight owner h bound x (below owner (mentioned x bound) e u) given unknown [] n in
+          (ap (λ (z : ConstantSeen). z.value) c, ap (λ (z : ConstantSeen). z.judgement.ty) c)
 
       whole : (known : GlobalEnv) → Reads m known → has_broken (constant_of (env_behind known owner given unknown) (expr_pair x)).judgement.faults ≡ false → AllUsed (uses_freely m owner) (mentioned x bound)
       whole known r v =
           let context = env_behind known owner given unknown in
           expression_judged (uses_freely m owner) x bound context (stands_where m known owner bound given unknown r.kinds r.cyclic c) (unmarked (span_of (expr_pair x)) (within context (expr_pair x)) (constant_inside context (expr_pair x) v))
 
-      by_broken : (p q : Bool) → has_broken one.judgement.faults ≡ p → has_broken two.judgement.faults ≡ q → one.value ≡ two.value
+      by_broken : (p q : Bool) → has_broken one.judgement.faults ≡ p → has_broken two.judgement.faults ≡ q → SameConstant one two
       by_broken false q v w = same (whole A a v)
       by_broken true false v w = same (whole B b w)
-      by_broken true true v w = broken_constant_is_none (env_behind A owner given unknown) (expr_pair x) v ∙ sym (broken_constant_is_none (env_behind B owner given unknown) (expr_pair x) w)
+      by_broken true true v w =
+          let no_first = broken_constant_is_none (env_behind A owner given unknown) (expr_pair x) v in
+          let no_second = broken_constant_is_none (env_behind B owner given unknown) (expr_pair x) w in
+          (no_first ∙ sym no_second, untyped_without (env_behind A owner given unknown) x no_first ∙ sym (untyped_without (env_behind B owner given unknown) x no_second))
 
   default_of : (owner : List ℕ) → Q owner ≡ true → (bound : List (List ℕ)) → (o : Option Expr) → ExprDen owner (expr_if o bound) → (given : List Given) (unknown : List (List ℕ)) → Covers bound given unknown → HiddenAlike bound (env_behind A owner given unknown) B
-      → (default_if (env_behind A owner given unknown) o).value ≡ (default_if (env_behind B owner given unknown) o).value
-  default_of owner h bound None e given unknown c n = refl
+      → SameDefault (default_if (env_behind A owner given unknown) o) (default_if (env_behind B owner given unknown) o)
+  default_of owner h bound None e given unknown c n = (refl, refl)
   default_of owner h bound (Some x) e given unknown c n = value_of owner h bound x e given unknown c n
 
   arguments_of : (owner : List ℕ) → Q owner ≡ true → (fs : List Field) (bound : List (List ℕ)) → ExprDen owner (fields_mentions fs bound) → (given : List Given) (unknown : List (List ℕ)) → Covers bound given unknown → HiddenAlike bound (env_behind A owner given unknown) B

@@ -71,9 +71,9 @@ module _ (m : Module) (n : ℕ) (own : List ℕ) where
       r : (item_reaches m own name ≡ true) × (not (item_reaches m name own) ≡ true)
       r = let q = and_both (is_above m own name) (not (is_proc_item (item_named name m.items))) h in and_both (item_reaches m own name) (not (item_reaches m name own)) q.0
 
-      by_name : (b : Bool) → bytes_eq name own ≡ b → (b || item_reaches m name own) ≡ false
+      by_name : (b : Bool) → bytes_eq name own ≡ b → (b || (item_reaches m name own && item_reaches m own name)) ≡ false
       by_name true q = absurd (true≢false (sym r.1 ∙ ap not (ap (item_reaches m name) (sym (same_name name own q)) ∙ ap (λ z. item_reaches m z name) (same_name name own q) ∙ r.0)))
-      by_name false q = not_true (item_reaches m name own) r.1
+      by_name false q = λ t. not_true (item_reaches m name own) r.1 t && item_reaches m own name
 
   function_alike : (f : Function) → K.is_cyclic own f.name.name ≡ false → FunctionAlike K B f
   function_alike f free = record {

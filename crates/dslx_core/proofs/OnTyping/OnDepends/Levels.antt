@@ -76,7 +76,7 @@ own_settles m k owner h = all_from (is_reached_so m k owner) (mentions_of m (ite
     by_back x (reaches_mentioned m owner x i) (not_true (is_proc_item (item_named x m.items)) other) (item_reaches m x owner) refl)
   where
     by_back : (x : List ℕ) → item_reaches m owner x ≡ true → is_proc_item (item_named x m.items) ≡ false → (b : Bool) → item_reaches m x owner ≡ b → is_reached_so m k owner x ≡ true
-    by_back x e other true q = or_first (is_beside m owner x) (settles m k x) (λ i. e i && or_second (bytes_eq x owner) (item_reaches m x owner) q i)
+    by_back x e other true q = or_first (is_beside m owner x) (settles m k x) (λ i. e i && or_second (bytes_eq x owner) (item_reaches m x owner && item_reaches m owner x) (λ j. q j && e j) i)
     by_back x e other false q = or_second (is_beside m owner x) (settles m k x) (below_settles m k owner x h e q other)
 
 -- ---- at one level

@@ -9,7 +9,7 @@ use Rattle.dslx_meaning.specs.Items.{item_named, parametric_args_bound, with_num
 use Rattle.dslx_meaning.specs.Lists.{is_in}
 use Rattle.dslx_meaning.specs.declared.value.DslxValue.{DslxValue}
 use Rattle.dslx_meaning.specs.Rules.ItemRules.{item_type_env, typing_of_inner}
-use Rattle.dslx_meaning.specs.Rules.TypeEnvs.{GlobalEnv, TypeEnv}
+use Rattle.dslx_meaning.specs.Rules.TypeEnvs.{DefaultSeen, GlobalEnv, TypeEnv}
 use Rattle.dslx_meaning.specs.Rules.Mentions.{parametric_names}
 use Rattle.dslx_meaning.specs.Rules.ModuleRules.{BehindParametrics, behind_next, behind_values, default_if, default_seen, globals_over, parameter_seen, parametrics_of, signature_of}
 use Rattle.dslx_meaning.specs.Rules.PatternRules.{is_there}
@@ -296,11 +296,15 @@ module _ (a b : GlobalEnv) (owner : List ℕ) (x : Definition) (at : item_named 
 
 -- ---- types and values alone
 
+-- one value and one type
+abbrev pub SameDefault : DefaultSeen → DefaultSeen → Type 0
+SameDefault x y = (x.value ≡ y.value) × (x.judgement.ty ≡ y.judgement.ty)
+
 module _ (a b : GlobalEnv) (owner : List ℕ) (x : Definition) (at : item_named owner a.whole.items ≡ Some x) (to : item_named owner b.whole.items ≡ Some x) (Q : List (List ℕ) → List Parametric → Type 0) (on : PassesOn Q)
     (typed : (bound : List (List ℕ)) (p : Parametric) (ps : List Parametric) → Q bound (p ∷ ps) → (given : List Given) (unknown : List (List ℕ)) → Covers bound given unknown → AreBound bound given unknown
     → (typing_of_inner (env_behind a owner given unknown) p.ty).ty ≡ (typing_of_inner (env_behind b owner given unknown) p.ty).ty)
     (defaults : (bound : List (List ℕ)) (p : Parametric) (ps : List Parametric) → Q bound (p ∷ ps) → (given : List Given) (unknown : List (List ℕ)) → Covers bound given unknown → AreBound bound given unknown
-    → (default_if (env_behind a owner given unknown) p.default).value ≡ (default_if (env_behind b owner given unknown) p.default).value)
+    → SameDefault (default_if (env_behind a owner given unknown) p.default) (default_if (env_behind b owner given unknown) p.default))
     (signatures : (given : List Given) (unknown : List (List ℕ)) → Covers (parametric_names (parametrics_of (Some x))) given unknown → AreBound (parametric_names (parametrics_of (Some x))) given unknown
     → signature_of (env_behind a owner given unknown) (Some x) ≡ signature_of (env_behind b owner given unknown) (Some x)) where
   type_alike : (left : List Parametric) (bound : List (List ℕ)) → Q bound left → (given : List Given) (unknown : List (List ℕ)) → Covers bound given unknown → AreBound bound given unknown
@@ -309,8 +313,8 @@ module _ (a b : GlobalEnv) (owner : List ℕ) (x : Definition) (at : item_named 
   type_alike (p ∷ ps) bound q given unknown c w = typed bound p ps q given unknown c w
 
   value_alike : (left : List Parametric) (bound : List (List ℕ)) → Q bound left → (given : List Given) (unknown : List (List ℕ)) → Covers bound given unknown → AreBound bound given unknown
-      → (default_seen (env_behind a owner given unknown) left).value ≡ (default_seen (env_behind b owner given unknown) left).value
-  value_alike [] bound q given unknown c w = refl
+      → SameDefault (default_seen (env_behind a owner given unknown) left) (default_seen (env_behind b owner given unknown) left)
+  value_alike [] bound q given unknown c w = (refl, refl)
   value_alike (p ∷ ps) bound q given unknown c w = defaults bound p ps q given unknown c w
 
   -- of what is written in the text of an item the same types and values are known by both
@@ -322,8 +326,12 @@ module _ (a b : GlobalEnv) (owner : List ℕ) (x : Definition) (at : item_named 
         ∙ sym (ap (λ (z : BehindParametrics). (parameter_seen z.context z.left).ty) (r.stands b to));
     default = λ before.
         let r = behind Q on owner x q before in
-        ap (λ (z : BehindParametrics). (default_seen z.context z.left).value) (r.stands a at) ∙ value_alike r.left r.bound r.holds r.given r.unknown r.covers r.within
+        ap (λ (z : BehindParametrics). (default_seen z.context z.left).value) (r.stands a at) ∙ (value_alike r.left r.bound r.holds r.given r.unknown r.covers r.within).0
         ∙ sym (ap (λ (z : BehindParametrics). (default_seen z.context z.left).value) (r.stands b to));
+    default_type = λ before.
+        let r = behind Q on owner x q before in
+        ap (λ (z : BehindParametrics). (default_seen z.context z.left).judgement.ty) (r.stands a at) ∙ (value_alike r.left r.bound r.holds r.given r.unknown r.covers r.within).1
+        ∙ sym (ap (λ (z : BehindParametrics). (default_seen z.context z.left).judgement.ty) (r.stands b to));
     signature = λ before many.
         let r = behind Q on owner x q before in
         (λ i. signature_of (r.stands a at i).context (at i)) ∙ signatures r.given r.unknown (λ name e. r.covers name (r.divided name e).0) (all_bound Q owner x before r (many ∙ ap (λ o. length (parametrics_of o)) at)) ∙ sym (λ i. signature_of (r.stands b to i).context (to i));

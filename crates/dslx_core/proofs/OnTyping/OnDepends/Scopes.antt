@@ -134,6 +134,7 @@ pub types_from : (a b : GlobalEnv) (owner : List ℕ) → DeclaredAlike a b owne
 types_from a b owner h = record {
   parameter = λ before. ap (λ (j : Judgement). j.ty) (h.parameter before);
   default = λ before. ap (λ (x : DefaultSeen). x.value) (h.default before);
+  default_type = λ before. ap (λ (x : DefaultSeen). x.judgement.ty) (h.default before);
   signature = h.signature;
 }
 

@@ -156,7 +156,7 @@ mention_one m x y p q bound AsEnum name false e h = λ a. p.members name e a ∙
 mention_one m x y p q bound AsStruct name true e h = (h refl).structs
 mention_one m x y p q bound AsStruct name false e h = p.structs name e ∙ sym (q.structs name e)
 
-agree_on : (m : Module) (x y : Meanings) → OfKinds m x → OfKinds m y → (bound : List Given) (ms : List Mention) → OfEach (ItemMeansOne x y) (names_mentioned m ms)
+pub agree_on : (m : Module) (x y : Meanings) → OfKinds m x → OfKinds m y → (bound : List Given) (ms : List Mention) → OfEach (ItemMeansOne x y) (names_mentioned m ms)
     → AgreeOn ms (within_items x bound) (within_items y bound)
 agree_on m x y p q bound [] h = tt
 agree_on m x y p q bound (n ∷ ns) h = pick (is_of_use n.use_as (item_named n.name m.items)) refl h (agree_on m x y p q bound ns)
@@ -432,7 +432,7 @@ calls_one x y (Some (d.Enum n)) h ns vs = refl
 calls_one x y (Some (d.Proc p)) h ns vs = refl
 calls_one x y None h ns vs = refl
 
-item_over : (m : Module) (x y : Meanings) (name : List ℕ) → Agreeing x y (mentions_in (item_named name m.items)) → ItemMeansOne (meanings_over m x) (meanings_over m y) name
+pub item_over : (m : Module) (x y : Meanings) (name : List ℕ) → Agreeing x y (mentions_in (item_named name m.items)) → ItemMeansOne (meanings_over m x) (meanings_over m y) name
 item_over m x y name h = record {
   types = types_one x y (item_named name m.items) h;
   structs = structs_one x y (item_named name m.items) h;

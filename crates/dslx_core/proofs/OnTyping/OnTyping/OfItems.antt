@@ -261,13 +261,14 @@ all_weaker : (P Q : List ℕ → Bool) → ((name : List ℕ) → P name ≡ tru
 all_weaker P Q f [] h = tt
 all_weaker P Q f (i ∷ is) h = (f i.name h.0, all_weaker P Q f is h.1)
 
-not_reached_back : (p q : Bool) → (p || q) ≡ false → not q ≡ true
-not_reached_back false q e = ap not e
-not_reached_back true q e = absurd (true≢false e)
+not_reached_back : (p q there : Bool) → there ≡ true → (p || (q && there)) ≡ false → not q ≡ true
+not_reached_back true q there h e = absurd (true≢false e)
+not_reached_back false false there h e = refl
+not_reached_back false true there h e = absurd (true≢false (sym h ∙ e))
 
 -- what the owner reaches, and what doesn't reach the owner
 is_below : (m : Module) (n : ℕ) (owner name : List ℕ) → item_reaches m owner name ≡ true → (globals_within m n).is_cyclic owner name ≡ false → is_above m owner name ≡ true
-is_below m n owner name e free = λ i. e i && not_reached_back (bytes_eq name owner) (item_reaches m name owner) (sym (cyclic_is m n owner name) ∙ free) i
+is_below m n owner name e free = λ i. e i && not_reached_back (bytes_eq name owner) (item_reaches m name owner) (item_reaches m owner name) e (sym (cyclic_is m n owner name) ∙ free) i
 
 each_reached : (m : Module) (owner : List ℕ) (names : List (List ℕ)) → ((name : List ℕ) → IsIn name names → item_reaches m owner name ≡ true) → list_all (item_reaches m owner) names ≡ true
 each_reached m owner [] h = refl

@@ -32,6 +32,7 @@ pub record DeclaredAlike (a b : GlobalEnv) (owner : List ℕ) : Type 0 where
 pub record TypesAlike (a b : GlobalEnv) (owner : List ℕ) : Type 0 where
   pub parameter : (before : List (Option DslxValue)) → (a.parameter_in owner before).ty ≡ (b.parameter_in owner before).ty
   pub default : (before : List (Option DslxValue)) → (a.default_in owner before).value ≡ (b.default_in owner before).value
+  pub default_type : (before : List (Option DslxValue)) → (a.default_in owner before).judgement.ty ≡ (b.default_in owner before).judgement.ty
   pub signature : (values : List (Option DslxValue)) → OfAllParametrics a owner values → a.signature_in owner values ≡ b.signature_in owner values
 
 -- a function: what it declares, and how large its instances are

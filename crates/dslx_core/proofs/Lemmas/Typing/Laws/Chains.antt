@@ -1,5 +1,5 @@
 -- Where no item reaches itself, no chain of items each of which mentions the next is longer than the list of items.
-use Rattle.std.proofs.Common.{◌≡◌, ◌+◌, ◌⊎◌, inl, inr, ◌||◌, ℕ, zero, suc, Bool, true, false, if◌then◌else◌, List, [], ◌∷◌, map, length, Option, Some, None, refl, sym, ap, subst, ◌∙◌, arith}
+use Rattle.std.proofs.Common.{◌≡◌, ◌+◌, ◌⊎◌, inl, inr, ◌&&◌, ◌||◌, ℕ, zero, suc, Bool, true, false, if◌then◌else◌, List, [], ◌∷◌, map, length, Option, Some, None, refl, sym, ap, subst, ◌∙◌, arith}
 use mathlib.Core.Bool.{true≢false}
 use Rattle.std.specs.Str.{bytes_eq}
 use Rattle.std.specs.List.{list_any}
@@ -51,6 +51,13 @@ OfEach P (x ∷ xs) = P x × OfEach P xs
 pub of_each : (P : List ℕ → Type 0) (xs : List (List ℕ)) → ((x : List ℕ) → IsIn x xs → P x) → OfEach P xs
 of_each P [] h = tt
 of_each P (x ∷ xs) h = (h x (or_first (bytes_eq x x) (list_any (bytes_eq x) xs) (itself x)), of_each P xs (λ y q. h y (or_second (bytes_eq y x) (list_any (bytes_eq y) xs) q)))
+
+-- what one test says of each of these names another says
+pub any_of_each : (f g : List ℕ → Bool) (xs : List (List ℕ)) → ((x : List ℕ) → IsIn x xs → f x ≡ true → g x ≡ true) → list_any f xs ≡ true → list_any g xs ≡ true
+any_of_each f g [] h e = e
+any_of_each f g (x ∷ xs) h e =
+    or_cases (f x) (list_any f xs) e (λ q. or_first (g x) (list_any g xs) (h x (or_first (bytes_eq x x) (list_any (bytes_eq x) xs) (itself x)) q))
+    (λ q. or_second (g x) (list_any g xs) (any_of_each f g xs (λ y there. h y (or_second (bytes_eq y x) (list_any (bytes_eq y) xs) there)) q))
 
 -- ---- items
 
@@ -125,9 +132,13 @@ reaches_then m (suc n) a b c e h =
 never_itself : (m : Module) → HasNoCycle m → (n k : ℕ) (a : List ℕ) → k + n ≡ length m.items → reaches_within m n a a ≡ true → ⊥
 never_itself m free zero k a s e = true≢false (sym e)
 never_itself m free (suc n) k a s e =
-    true≢false (sym (any_weaker (λ next. bytes_eq next a || reaches_within m n next a) (is_cyclic m a) (mentions_of m (item_named a m.items))
-    (λ x q. or_cases (bytes_eq x a) (reaches_within m n x a) q (or_first (bytes_eq x a) (item_reaches m x a)) (λ r. or_second (bytes_eq x a) (item_reaches m x a) (up x r))) e) ∙ free a)
+    true≢false (sym (any_of_each (λ next. bytes_eq next a || reaches_within m n next a) (is_cyclic m a) (mentions_of m (item_named a m.items))
+    (λ x there q. or_cases (bytes_eq x a) (reaches_within m n x a) q (or_first (bytes_eq x a) (item_reaches m x a && item_reaches m a x))
+    (λ r. or_second (bytes_eq x a) (item_reaches m x a && item_reaches m a x) (λ i. up x r i && down x there i))) e) ∙ free a)
   where
+    down : (x : List ℕ) → MentionsItem m a x → item_reaches m a x ≡ true
+    down x there = let q : suc (k + n) ≡ length m.items = omega (arith, s) in subst (λ j. reaches_within m j a x ≡ true) q (reaches_next m (k + n) a x there)
+
     up : (x : List ℕ) → reaches_within m n x a ≡ true → item_reaches m x a ≡ true
     up x r = let q : suc k + n ≡ length m.items = omega arith in subst (λ j. reaches_within m j x a ≡ true) q (reaches_up m (suc k) n x a r)
 
