@@ -1,6 +1,6 @@
 //! What the text of each kind of item mentions.
 
-ghost use Rattle.std.specs.Prelude.{◌≡◌, map, IfOk, OnOk};
+ghost use Rattle.std.specs.Prelude.{◌≡◌, [], map, IfOk, OnOk};
 ghost use Rattle.std.specs.Option.{option_map};
 ghost use Rattle.dslx_meaning.specs.Rules.Mentions.{definition_mentions, mentioned, mentioned_in_arg, mentioned_in_type};
 ghost use Rattle.dslx_check_items.specs.Shown.{mention_shown};
@@ -28,6 +28,15 @@ pub fn mentions_of<'a>(
 {
     let mut w = Walk::new(alloc);
     mention_definition(&mut w, definition)?;
+    Ok(w.found)
+}
+
+/// What an expression by itself mentions, in order, as often as it does.
+pub fn expr_mentions<'a>(alloc: Global, expr: &'a Expr) -> Result<Vec<Mention<'a>>, AllocError>
+    ensures { IfOk result (λ mentions. map mention_shown mentions.items ≡ mentioned expr.now []) }
+{
+    let mut w = Walk::new(alloc);
+    mention_expr(&mut w, expr)?;
     Ok(w.found)
 }
 

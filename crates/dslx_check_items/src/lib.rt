@@ -9,7 +9,7 @@ mod reaching;
 mod table;
 mod walk;
 
-pub use definitions::mentions_of;
+pub use definitions::{expr_mentions, mentions_of};
 pub use mention::{Mention, Use};
 pub use reaching::{Reaching, reaching_of};
 pub use table::{ItemTable, ident_of};

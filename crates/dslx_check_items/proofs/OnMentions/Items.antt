@@ -142,3 +142,8 @@ item_found (d.Constant x) = constant_found x
 item_found (d.Alias a) = refl
 item_found (d.Struct s) = ap (λ (w : MentionWalk). w.found) (flat_in_turn in_field_type s.fields starts)
 item_found (d.Enum e) = enum_found e
+
+-- of an expression by itself
+pub expr_found : (e : Expr) → (mentioning (mentioned e) starts).found ≡ mentioned e []
+unfolding mentioning
+expr_found e = refl
