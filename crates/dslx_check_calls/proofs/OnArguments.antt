@@ -51,7 +51,6 @@ use Rattle.dslx_check_calls.specs.declared.parametrics.Resolved.{Resolved}
 use Rattle.dslx_check_calls.specs.declared.parametrics.Resolved.TheVariants as code
 use Rattle.dslx_check_calls.specs.Arguments.{AreArgs, ArgsFrom, Finds, Saying, Sees}
 use Rattle.dslx_check_calls.specs.Inner.Parametrics.{AddsThere, Argues, Argument, ArgumentFrom, GivenFrom, HasBefore, IsNoArgs, IsGivenIf, IsResolved, NextFrom, NotesDefault, NotesThere, NotesType, PutsValue, ResolvedFrom, Resolves, DeclaredType, argument_by, default_at, default_known, is_number, is_same, is_wrong_value, next_argument, not_given_by, value_if}
-use Rattle.dslx_check_calls.specs.Called.{HaveOwnTypes}
 use Rattle.dslx_check_uses.specs.Inferring.{first_number}
 
 -- ---- results
@@ -391,13 +390,13 @@ step_at known owner numbers maybe before ps gs i p h e =
     ∙ (λ j. by (given_at gs i j) ((given_behind gs i ∙ ap (λ k. drop k gs) more) j))
 
 -- what is given for the one at this place
-pub given_if : (names : ItemNames) (rows later : List TypeRow) (given : List ParametricArgument) (gs : List GivenSeen) (i : ℕ) → HaveOwnTypes gs → AreGiven names rows later given gs
+pub given_if : (names : ItemNames) (rows later : List TypeRow) (given : List ParametricArgument) (gs : List GivenSeen) (i : ℕ) → AreGiven names rows later given gs
     → IsGivenIf names rows later (slice_get given i) (slice_get gs i)
-given_if names rows later [] [] i typed h = tt
-given_if names rows later [] (g ∷ gs) i typed h = absurd h
-given_if names rows later (g ∷ given) [] i typed h = absurd h
-given_if names rows later (g ∷ given) (x ∷ gs) zero typed h = (h.0, typed.0)
-given_if names rows later (g ∷ given) (x ∷ gs) (suc i) typed h = given_if names rows later given gs i typed.1 h.1
+given_if names rows later [] [] i h = tt
+given_if names rows later [] (g ∷ gs) i h = absurd h
+given_if names rows later (g ∷ given) [] i h = absurd h
+given_if names rows later (g ∷ given) (x ∷ gs) zero h = h.0
+given_if names rows later (g ∷ given) (x ∷ gs) (suc i) h = given_if names rows later given gs i h.1
 
 -- in a longer table of types
 pub given_if_stays : (names : ItemNames) (rows longer later : List TypeRow) (given : Option ParametricArgument) (g : Option GivenSeen) → IsPrefix rows longer → IsGivenIf names rows later given g
@@ -406,17 +405,15 @@ given_if_stays names rows longer later None None p h = tt
 given_if_stays names rows longer later None (Some g) p h = absurd h
 given_if_stays names rows longer later (Some x) None p h = absurd h
 given_if_stays names rows longer later (Some x) (Some g) p h =
-    let part = h.0.constant.part in (
-      record {
-        span = h.0.span;
-        constant = record {
-          part = record { row = row_stays_if rows longer x.constant.typing.ty p part.row; ty = part.ty; faults = part.faults; size = part.size };
-          untyped = h.0.constant.untyped;
-          value = h.0.constant.value;
-        };
-      },
-      h.1,
-    )
+    let part = h.constant.part in
+    record {
+      span = h.span;
+      constant = record {
+        part = record { row = row_stays_if rows longer x.constant.typing.ty p part.row; ty = part.ty; faults = part.faults; size = part.size };
+        untyped = h.constant.untyped;
+        value = h.constant.value;
+      };
+    }
 
 -- what is known of the first so many
 pub record UptoAt (known : GlobalEnv) (owner : List ℕ) (names : ItemNames) (later : WalkShown) (prefixes : List (List (Option DslxValue))) (cyclic : Bool) (ps : List Parametric) (gs : List GivenSeen)
@@ -434,7 +431,7 @@ pub record UptoAt (known : GlobalEnv) (owner : List ℕ) (names : ItemNames) (la
   pub left : parametric_args_seen known owner numbers maybe (known_before []) ps gs ≡ behind so (parametric_args_seen known owner numbers maybe before (drop i ps) (drop i gs))
 
 abbrev pub Upto : Facts → CalledItem → WalkShown → WalkShown → List Parametric → List ParametricArgument → List InferredNumber → List (List ℕ) → ParametricArgs → ℕ → Type 0
-Upto f callee w0 w1 ps given numbers maybe args i = Finds f callee w0 w1 (λ names known later. (gs : List GivenSeen) → HaveOwnTypes gs → AreGiven names w0.rows later.rows given gs
+Upto f callee w0 w1 ps given numbers maybe args i = Finds f callee w0 w1 (λ names known later. (gs : List GivenSeen) → AreGiven names w0.rows later.rows given gs
     → UptoAt known (names.item callee.item) names later w1.prefixes callee.is_cyclic ps gs numbers maybe args i)
 
 number_is_some : (r : Resolved) → is_number r ≡ is_some (value_if r)
@@ -476,12 +473,12 @@ pub upto_next : {f : Facts} {callee : CalledItem} {w0 w1 w2 w3 : WalkShown} {ps 
 upto_next {f} {callee} {w0} {w1} {w2} {w3} {ps} {numbers} {maybe} {a0} {a1} {a2} {r} given i p h e upto o is next put = record {
   grows = grows_trans w0 w1 w3 upto.grows (grows_trans w1 w2 w3 next.grows put.grows);
   reached = put.reached ∙ next.reached ∙ upto.reached;
-  says = λ known seen_as later has holds sees rows missing gs typed are.
+  says = λ known seen_as later has holds sees rows missing gs are.
       let at_two : HasTables w2 later = tables_trans w2 w3 later put.grows.tables has in
       let at_one : HasTables w1 later = tables_trans w1 w2 later next.grows.tables at_two in
       let missing_two : w2.missing ≡ [] = nothing_missing w2 w3 put.grows missing in
-      let u = upto.says known seen_as later at_one holds sees rows (nothing_missing w1 w2 next.grows missing_two) gs typed are in
-      let there = given_if_stays (item_names f) w0.rows w1.rows later.rows (slice_get given i) (slice_get gs i) upto.grows.tables.rows (given_if (item_names f) w0.rows later.rows given gs i typed are) in
+      let u = upto.says known seen_as later at_one holds sees rows (nothing_missing w1 w2 next.grows missing_two) gs are in
+      let there = given_if_stays (item_names f) w0.rows w1.rows later.rows (slice_get given i) (slice_get gs i) upto.grows.tables.rows (given_if (item_names f) w0.rows later.rows given gs i are) in
       let argued = next.says known seen_as later at_two holds sees (known_rows_stay w0.rows w1.rows f upto.grows.tables.rows rows) missing_two u.before (slice_get gs i) u.is_before
       (subst (λ (g : Option ParametricArgument). IsGivenIf (item_names f) w1.rows later.rows g (slice_get gs i)) (sym is) there) in
       one_more seen_as ((item_names f).item callee.item) (item_names f) later w1 w2 w3 callee.is_cyclic ps gs numbers maybe a0 a1 a2 i p r callee refl h e next.grows.tables.prefixes u argued put;
@@ -490,7 +487,7 @@ upto_next {f} {callee} {w0} {w1} {w2} {w3} {ps} {numbers} {maybe} {a0} {a1} {a2}
 -- none yet
 pub upto_none : {f : Facts} {callee : CalledItem} {w : WalkShown} {ps : List Parametric} {numbers : List InferredNumber} {maybe : List (List ℕ)} {args : ParametricArgs} (given : List ParametricArgument)
     → IsNoArgs w.prefixes args → Upto f callee w w ps given numbers maybe args 0
-upto_none {f} {callee} {w} {ps} {numbers} {maybe} {args} given e = unmoved _ (λ known seen_as later has holds sees rows gs typed are. record {
+upto_none {f} {callee} {w} {ps} {numbers} {maybe} {args} given e = unmoved _ (λ known seen_as later has holds sees rows gs are. record {
   so = nothing_yet;
   before = known_before [];
   is_before = record { at = e.at; known = e.known };
@@ -532,9 +529,9 @@ pub upto_all : {f : Facts} {callee : CalledItem} {w0 w1 : WalkShown} {ps : List 
 upto_all {f} {callee} {w0} {w1} {ps} {numbers} {maybe} {args} given i past upto = record {
   grows = upto.grows;
   reached = upto.reached;
-  says = λ known seen_as later has holds sees rows missing gs typed are count.
+  says = λ known seen_as later has holds sees rows missing gs are count.
       let names = item_names f in
-      let u = upto.says known seen_as later has holds sees rows missing gs typed are in
+      let u = upto.says known seen_as later has holds sees rows missing gs are in
       let long : length given ≡ length gs = pairs_long (IsGiven names w0.rows later.rows) given gs are in
       let none_left : drop i gs ≡ [] = past_all gs i (omega (arith, long, count, past)) in
       let end : ParametricArgsSeen = record { values = Some []; bound = u.before; is_wrong = false; faults = []; declared = nothing_there } in
@@ -674,7 +671,7 @@ pub default_found : {f : Facts} {callee : CalledItem} {w0 w1 : WalkShown} {old n
     → ((rows : List TypeRow) → HasKnownRows rows f → w1.missing ≡ [] → HasRowIf rows default.typing.ty)
     → ((known : GlobalEnv) (later : WalkShown) → HasTables w1 later → FactsHold f later known → w1.missing ≡ []
     → IsDefault (item_names f) later callee.is_cyclic default (known.default_in ((item_names f).item callee.item) (list_or_none later.prefixes old.prefix)))
-    → NotesDefault w1.rows ty at default old new r → ResolvedFrom f callee w0 w1 old new ty (default_at at) r
+    → NotesDefault (item_names f) w1.rows ty at default old new r → ResolvedFrom f callee w0 w1 old new ty (default_at at) r
 default_found {f} {callee} {w0} {w1} {old} {new} {default} {ty} {at} {r} acyclic grows reached row typing notes = record {
   grows = grows;
   reached = reached;
@@ -690,15 +687,14 @@ default_found {f} {callee} {w0} {w1} {old} {new} {default} {ty} {at} {r} acyclic
       let is_it : IsDefault names later callee.is_cyclic default d = subst (λ vs. IsDefault names later callee.is_cyclic default (known.default_in owner vs)) values (typing known later has holds missing) in
       let seen_there : d ≡ seen_as.default_in owner before.values =
       ap (λ b. if b then record { judgement = untyped_typing; value = None } else known.default_in owner before.values) (sym acyclic) ∙ sym (sees.default before.values) in
-      let well : (v : DslxValue) → default.value ≡ Some v → type_if names later.rows default.typing.ty ≡ Some (type_of_value v) = λ v e. is_it.typing.ty ∙ holds.defaults owner before.values v (sym is_it.value ∙ e) in
       subst (λ (x : DefaultSeen). Resolves names later callee old new r (record {
         value = resolved_value (of_type t x.value);
         typing = record { faults = x.judgement.faults ++ wanted_faults at t x.judgement.ty; reached = x.judgement.reached };
       })) seen_there
       (record {
-        value = subst (λ o. IsResolved r (resolved_value (of_type t o))) is_it.value (notes.value names later.rows holds.distinct has.rows there own well);
+        value = subst (λ o. IsResolved r (resolved_value (of_type t o))) is_it.value (notes.value later.rows holds.distinct has.rows there own);
         adds = record {
-          declared = λ free fs e. notes.declared names later.rows fs d.judgement.faults holds.distinct has.rows there own e (is_it.typing.faults free)
+          declared = λ free fs e. notes.declared later.rows fs d.judgement.faults holds.distinct has.rows there own e (is_it.typing.faults free)
               ∙ ap (λ o. seen (fs ++ (d.judgement.faults ++ wanted_faults at t o))) is_it.typing.ty;
           reaches = λ free. ap (instances_at names later.met) notes.reaches ∙ map-append (instance_at names later.met) old.reached.items default.typing.reached.items
               ∙ ap (λ is. instances_at names later.met old.reached.items ++ is) (is_it.typing.reached free);
@@ -747,7 +743,7 @@ given_rest : (old new : ParametricArgs) → new ≡ record old { faults = new.fa
 given_rest old new e = e ∙ (λ i. record old { faults = new.faults; declared = sym (ap (λ (a : ParametricArgs). a.declared) e) i; reached = sym (ap (λ (a : ParametricArgs). a.reached) e) i })
 
 pub argument_given : {f : Facts} {callee : CalledItem} {w : WalkShown} {old new : ParametricArgs} {ty : Option TypeId} {r : Resolved} (p : Parametric) (numbers : List InferredNumber) (maybe : List (List ℕ)) (o : Option ParametricArgument)
-    (given : ParametricArgument) → o ≡ Some given → GivenFrom w.rows ty given old new r → ArgumentFrom f callee w w old new ty p o numbers maybe r
+    (given : ParametricArgument) → o ≡ Some given → GivenFrom (item_names f) w.rows ty given old new r → ArgumentFrom f callee w w old new ty p o numbers maybe r
 argument_given {f} {callee} {w} {old} {new} {ty} {r} p numbers maybe o given e from =
     subst (λ (o : Option ParametricArgument). ArgumentFrom f callee w w old new ty p o numbers maybe r) (sym e)
     (unmoved _ (λ known seen_as later has holds sees rows before g is row are. by known seen_as later has holds before g row are))
@@ -758,11 +754,10 @@ argument_given {f} {callee} {w} {old} {new} {ty} {r} p numbers maybe o given e f
     by known seen_as later has holds before (Some g) row are =
         let names = item_names f in
         let t = type_if names later.rows ty in
-        let part = are.0.constant.part in
-        let well : (v : DslxValue) → given.constant.value ≡ Some v → type_if names later.rows given.constant.typing.ty ≡ Some (type_of_value v) = λ v is. part.ty ∙ are.1 v (sym are.0.constant.value ∙ is) in
+        let part = are.constant.part in
         record {
-          value = subst (λ v. IsResolved r (resolved_value (of_type t v))) are.0.constant.value (from.value names later.rows holds.distinct has.rows row part.row well);
-          faults = λ fs is. from.faults names later.rows fs holds.distinct has.rows row part.row is ∙ (λ i. seen (fs ++ wanted_faults (are.0.span i) t (part.ty i)));
+          value = subst (λ v. IsResolved r (resolved_value (of_type t v))) are.constant.value (from.value later.rows holds.distinct has.rows row part.row);
+          faults = λ fs is. from.faults later.rows fs holds.distinct has.rows row part.row is ∙ (λ i. seen (fs ++ wanted_faults (are.span i) t (part.ty i)));
           adds = record {
             declared = λ acyclic fs is. ap (λ (a : ParametricArgs). a.declared) from.rest ∙ is ∙ ap seen (sym (append-nil fs));
             reaches = λ acyclic. ap (λ (a : ParametricArgs). instances_at names later.met a.reached.items) from.rest ∙ sym (append-nil (instances_at names later.met old.reached.items));

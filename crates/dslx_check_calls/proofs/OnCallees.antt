@@ -373,14 +373,14 @@ pub call_args_from : {f : Facts} {callee : CalledItem} {w0 w1 : WalkShown} {args
 call_args_from {f} {callee} {w0} {w1} {args} {numbers} {maybe} function given operands arguments parametrics types a p t n m from = record {
   grows = from.grows;
   reached = from.reached;
-  says = λ known seen_as later has holds sees rows missing gs xs well are placed count.
+  says = λ known seen_as later has holds sees rows missing gs xs are placed count.
       let names = item_names f in
       let longer : IsPrefix w0.rows later.rows = IsPrefix-trans w0.rows w1.rows later.rows from.grows.tables.rows has.rows in
       let ts : map (type_if names later.rows) types ≡ types_of (judgements xs) = ap (map (type_if names later.rows)) t ∙ types_are names w0.rows later.rows operands xs placed in
       let numbers_are : numbers ≡ inferred_by function.arguments (types_of (judgements xs)) = n names later.rows longer ∙ (λ i. inferred_by (a i) (ts i)) in
       let maybe_are : maybe ≡ maybe_inferred function.arguments (types_of (judgements xs)) = m names later.rows ∙ (λ i. maybe_inferred (a i) (ts i)) in
       subst (AreArgs names later callee.is_cyclic args) (λ i. parametric_args_seen seen_as (names.item callee.item) (numbers_are i) (maybe_are i) (known_before []) (p i) gs)
-      (from.says known seen_as later has holds sees rows missing gs well are (subst (λ (ps : List Parametric). length given ≤ length ps) (sym p) count));
+      (from.says known seen_as later has holds sees rows missing gs are (subst (λ (ps : List Parametric). length given ≤ length ps) (sym p) count));
 }
 
 -- ---- a call from all of this
@@ -433,7 +433,7 @@ pub right_from : {f : Facts} {callee : CalledItem} {w0 w1 w2 w3 : WalkShown} {sp
     → RightFrom f callee w0 w3 span function given operands j
 right_from {f} {callee} {w0} {w1} {w2} {w3} {span} {function} {given} {operands} {args} {size} {signature} {parts} {faults} {j} found reach sign of faulty typed = record {
   grows = grows_trans w0 w1 w3 found.grows (grows_trans w1 w2 w3 reach.grows sign.grows);
-  says = λ known seen_as later has holds sees rows missing owner count gs xs well are placed.
+  says = λ known seen_as later has holds sees rows missing owner count gs xs are placed.
       let names = item_names f in
       let item = names.item callee.item in
       let two : HasTables w2 later = tables_trans w2 w3 later sign.grows.tables has in
@@ -442,7 +442,7 @@ right_from {f} {callee} {w0} {w1} {w2} {w3} {span} {function} {given} {operands}
       let missing_one : w1.missing ≡ [] = nothing_missing w1 w2 reach.grows missing_two in
       let x : ParametricArgsSeen = args_of_call seen_as function.name.name function gs xs in
       let shown : AreArgs names later callee.is_cyclic args x =
-      subst (λ o. AreArgs names later callee.is_cyclic args (args_of_call seen_as o function gs xs)) owner (found.says known seen_as later one holds sees rows missing_one gs xs well are placed count) in
+      subst (λ o. AreArgs names later callee.is_cyclic args (args_of_call seen_as o function gs xs)) owner (found.says known seen_as later one holds sees rows missing_one gs xs are placed count) in
       let there = reach.says known seen_as later two holds sees missing_two x shown in
       let front : WalkGrows w0 w2 = grows_trans w0 w1 w2 found.grows reach.grows in
       let rows_two : HasKnownRows w2.rows f = known_rows_stay w0.rows w2.rows f front.tables.rows rows in
@@ -485,7 +485,7 @@ pub none_called : {f : Facts} {s : CodeEnv} {w : WalkShown} {given : List Parame
     → CallFrom f s w w given operands j (call_by_parts span name)
 none_called {f} {s} {w} {given} {operands} {j} span name none typed = record {
   grows = grows_refl w;
-  comes = λ known later has holds rows missing gs xs well are placed.
+  comes = λ known later has holds rows missing gs xs are placed.
       let names = item_names f in
       let env = environment f s known later in
       let nothing : None ≡ as_function (item_named name.name env.known.whole.items) = sym (ap as_function (means f later known name.name holds) ∙ none) in
@@ -504,7 +504,7 @@ pub one_called : {f : Facts} {s : CodeEnv} {w0 w1 : WalkShown} {span : Span} {gi
     → RightFrom f callee w0 w1 span function given operands j → CallFrom f s w0 w1 given operands j (call_by_parts span name)
 one_called {f} {s} {w0} {w1} {span} {given} {operands} {j} {callee} {function} name meant cyclic hidden right count from = record {
   grows = from.grows;
-  comes = λ known later has holds rows missing gs xs well are placed.
+  comes = λ known later has holds rows missing gs xs are placed.
       let names = item_names f in
       let env = environment f s known later in
       let there : Some function ≡ as_function (item_named name.name env.known.whole.items) = sym (ap as_function (means f later known name.name holds ∙ meant.meant)) in
@@ -512,7 +512,7 @@ one_called {f} {s} {w0} {w1} {span} {given} {operands} {j} {callee} {function} n
       sym right ∙ (λ i. pairs_long (IsPlaced names w0.rows later.rows) operands xs placed i == length function.arguments && not (nat_lt (length function.parametrics) (pairs_long (IsGiven names w0.rows later.rows) given gs are i))) in
       let own : callee.is_cyclic ≡ env.known.is_cyclic env.owner name.name = cyclic ∙ cyclic_is f s later known callee.item name.name holds meant.called in
       let claim : Judgement → Type 0 = λ x. IsPart names w1.rows later.rows j x × (call_parts_reached gs (judgements xs) ++ instances_at names later.met (drop (length w0.reached) w1.reached) ≡ x.reached) in
-      let said = from.says known env.known later has holds (sees_there f s later known callee holds cyclic hidden) rows.known missing (called_by f name.name callee.item function meant) count gs xs well are placed in
+      let said = from.says known env.known later has holds (sees_there f s later known callee holds cyclic hidden) rows.known missing (called_by f name.name callee.item function meant) count gs xs are placed in
       let x : ParametricArgsSeen = args_of_call env.known function.name.name function gs xs in
       let by_cycle : List Fault = breaks_if (env.known.is_cyclic env.owner name.name) rule.NO_ITEM_REACHES_ITSELF span in
       subst (λ (o : Option Function). claim (call_if span env name gs xs o)) there
@@ -529,7 +529,7 @@ pub wrongly_called : {f : Facts} {s : CodeEnv} {w : WalkShown} {given : List Par
     → CallFrom f s w w given operands j (call_by_parts span name)
 wrongly_called {f} {s} {w} {given} {operands} {j} {item} {function} {cyclic} span name meant wrong refused typed = record {
   grows = grows_refl w;
-  comes = λ known later has holds rows missing gs xs well are placed.
+  comes = λ known later has holds rows missing gs xs are placed.
       let names = item_names f in
       let env = environment f s known later in
       let there : Some function ≡ as_function (item_named name.name env.known.whole.items) = sym (ap as_function (means f later known name.name holds ∙ meant.meant)) in

@@ -17,7 +17,6 @@ use Rattle.dslx_check_control.specs.declared.calls.ParametricArgument.{Parametri
 use Rattle.dslx_check_control.specs.Calls.{AreGiven}
 use Rattle.dslx_check_calls.specs.declared.parametrics.CalledItem.{CalledItem}
 use Rattle.dslx_check_calls.specs.declared.parametrics.ParametricArgs.{ParametricArgs}
-use Rattle.dslx_check_calls.specs.Called.{HaveOwnTypes}
 
 -- ---- what is known of a callee
 
@@ -57,5 +56,5 @@ pub record AreArgs (names : ItemNames) (later : WalkShown) (is_cyclic : Bool) (a
 
 -- where not more are given than there are
 abbrev pub ArgsFrom : Facts → CalledItem → WalkShown → WalkShown → List Parametric → List ParametricArgument → List InferredNumber → List (List ℕ) → ParametricArgs → Type 0
-ArgsFrom f callee w0 w1 ps given numbers maybe args = Finds f callee w0 w1 (λ names seen_as later. (gs : List GivenSeen) → HaveOwnTypes gs → AreGiven names w0.rows later.rows given gs → length given ≤ length ps
+ArgsFrom f callee w0 w1 ps given numbers maybe args = Finds f callee w0 w1 (λ names seen_as later. (gs : List GivenSeen) → AreGiven names w0.rows later.rows given gs → length given ≤ length ps
     → AreArgs names later callee.is_cyclic args (parametric_args_seen seen_as (names.item callee.item) numbers maybe (known_before []) ps gs))

@@ -13,22 +13,18 @@ use Rattle.dslx_check_rules.specs.declared.typing.Typing.{Typing}
 use Rattle.dslx_check_facts.specs.declared.facts.Facts.{Facts}
 use Rattle.dslx_check_facts.specs.declared.type_env.TypeEnv.{TypeEnv as CodeEnv}
 use Rattle.dslx_check_facts.specs.Judged.{Comes, environment}
-use Rattle.dslx_check_facts.specs.Known.{HasItsValue, item_names}
+use Rattle.dslx_check_facts.specs.Known.{item_names}
 use Rattle.dslx_check_facts.specs.Walks.{WalkShown, WalkGrows, instances_at}
 use Rattle.dslx_check_nodes.specs.declared.parts.Spanned.{Spanned}
 use Rattle.dslx_check_nodes.specs.Parts.{ArePlaced, IsPart, Placed, judgements}
 use Rattle.dslx_check_control.specs.declared.calls.ParametricArgument.{ParametricArgument}
 use Rattle.dslx_check_control.specs.Calls.{AreGiven, misfits}
 
--- parametric arguments whose values, where they have one, have their types
-abbrev pub HaveOwnTypes : List GivenSeen → Type 0
-HaveOwnTypes gs = AllByRecursion (λ (g : GivenSeen). HasItsValue g.seen.judgement g.seen.value) gs
-
 -- a call from what its parametric arguments and its operands came to: what it reaches itself comes behind what they reach
 pub record CallFrom (f : Facts) (s : CodeEnv) (old new : WalkShown) (given : List ParametricArgument) (operands : List Spanned) (j : Typing)
     (half : TypeEnv → List GivenSeen → List Placed → Judgement) : Type 0 where
   pub grows : WalkGrows old new
-  pub comes : Comes f s old new (λ known later. (gs : List GivenSeen) (xs : List Placed) → HaveOwnTypes gs → AreGiven (item_names f) old.rows later.rows given gs → ArePlaced (item_names f) old.rows later.rows operands xs
+  pub comes : Comes f s old new (λ known later. (gs : List GivenSeen) (xs : List Placed) → AreGiven (item_names f) old.rows later.rows given gs → ArePlaced (item_names f) old.rows later.rows operands xs
       → IsPart (item_names f) new.rows later.rows j (half (environment f s known later) gs xs)
       × (call_parts_reached gs (judgements xs) ++ instances_at (item_names f) later.met (drop (length old.reached) new.reached) ≡ (half (environment f s known later) gs xs).reached))
 

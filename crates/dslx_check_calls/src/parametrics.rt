@@ -1,16 +1,16 @@
 //! Parametrics of a call, a spawn or the top.
 
-ghost use Rattle.std.specs.Prelude.{◌≡◌, ◌==◌, List, Some, None, IfOk, OnOk, length, map, slice_get, if◌then◌else◌};
+ghost use Rattle.std.specs.Prelude.{◌≡◌, ◌==◌, List, Some, None, IfOk, OnOk, length, map, slice_get, true, if◌then◌else◌};
 ghost use Rattle.std.specs.List.{list_all};
 ghost use Rattle.std.specs.Option.{option_copied};
 ghost use Rattle.base.specs.Lists.Prefix.{IsPrefix};
 ghost use Rattle.dslx_meaning.specs.Lists.{all_some};
 ghost use Rattle.dslx_meaning.specs.Rules.CallRules as the;
-ghost use Rattle.dslx_meaning.specs.declared.value.DslxValue.{DslxValue as Value};
 ghost use Rattle.dslx_meaning.specs.Values.{type_of_value};
 ghost use Rattle.dslx_check_nodes.specs.Nodes.Aggregates as half;
 ghost use Rattle.dslx_check_rules.specs.Interned.{AreDistinct, HasRow, HasRowIf, ItemNames, type_at, type_if};
 ghost use Rattle.dslx_check_rules.specs.declared.table.row.TypeRow.{TypeRow as Row};
+ghost use Rattle.dslx_check_facts.specs.Known.{item_names};
 ghost use Rattle.dslx_check_facts.specs.Walks.{shown};
 ghost use Rattle.dslx_check_calls.specs.Arguments.{ArgsFrom, Finds};
 ghost use Rattle.dslx_check_calls.specs.Inner.Parametrics as seen_by;
@@ -19,7 +19,8 @@ ghost use Rattle.dslx_check_uses.specs.Inferring.{name_lent, number_of};
 use base::texts::Name;
 use dslx_check_control::calls::ParametricArgument;
 use dslx_check_facts::{
-    DefaultThere, Facts, Prefixes, TypingThere, Walk, default_seen, parameter_seen, untyped_value,
+    DefaultThere, Facts, Prefixes, TypingThere, Walk, default_seen, gives_type, parameter_seen,
+    untyped_value,
 };
 use dslx_check_nodes::aggregates::is_in_range;
 use dslx_check_nodes::written::unless_unit;
@@ -204,15 +205,42 @@ fn of_type(
     ty: Option<TypeId>,
     value: &Option<DslxValue>,
 ) -> Result<Resolved, AllocError>
-    ensures { IfOk result (λ r. (names : ItemNames) (later : List Row) → AreDistinct names → IsPrefix types.now later → HasRowIf types.now declared → HasRowIf types.now ty
-        → ((v : Value) → value.now ≡ Some v → type_if names later ty ≡ Some (type_of_value v)) → seen_by.IsResolved r (the.resolved_value (the.of_type (type_if names later declared) value.now))) }
+    ensures { IfOk result (λ r. (later : List Row) → AreDistinct (item_names f.now) → IsPrefix types.now later → HasRowIf types.now declared → HasRowIf types.now ty
+        → seen_by.IsResolved r (the.resolved_value (the.of_type (type_if (item_names f.now) later declared) value.now))) }
 {
     match value {
         None => Ok(Resolved::Unknown),
-        Some(value) => {
-            let is_same = same_types(types, declared, ty);
-            value_if(f, is_same, value)
-        }
+        Some(value) => typed_value(f, types, declared, ty, value),
+    }
+}
+
+/// The value of a constant of a type, if that is the one that is declared. A constant's value is of the constant's type; one that isn't
+/// would be refused as for want of memory.
+fn typed_value(
+    f: &Facts,
+    types: &TypeTable,
+    declared: Option<TypeId>,
+    ty: Option<TypeId>,
+    value: &DslxValue,
+) -> Result<Resolved, AllocError>
+    ensures { IfOk result (λ r. (later : List Row) → AreDistinct (item_names f.now) → IsPrefix types.now later → HasRowIf types.now declared → HasRowIf types.now ty
+        → seen_by.IsResolved r (if seen_by.is_same (type_if (item_names f.now) later declared) (Some (type_of_value value.now)) then the.Number value.now else the.Unknown)) }
+{
+    if is_typed(f, types, ty, value) {
+        let is_same = same_types(types, declared, ty);
+        value_if(f, is_same, value)
+    } else {
+        Err(AllocError)
+    }
+}
+
+/// Whether a value is of this type.
+fn is_typed(f: &Facts, types: &TypeTable, ty: Option<TypeId>, value: &DslxValue) -> bool
+    ensures { result ≡ true → (later : List Row) → IsPrefix types.now later → type_if (item_names f.now) later ty ≡ Some (type_of_value value.now) }
+{
+    match ty {
+        Some(ty) => gives_type(f, types, ty, value),
+        None => false,
     }
 }
 
@@ -347,7 +375,7 @@ fn note_default(
     default: &DefaultThere,
     seen: &mut ParametricArgs,
 ) -> Result<Resolved, AllocError>
-    ensures { IfOk result (λ r. seen_by.NotesDefault types.now ty at default.now seen.old seen.new r) }
+    ensures { IfOk result (λ r. seen_by.NotesDefault (item_names f.now) types.now ty at default.now seen.old seen.new r) }
 {
     let there = &default.typing;
     let own = wanted_faults(types, at, ty, there.ty);
@@ -387,7 +415,7 @@ fn given_value(
     given: &ParametricArgument,
     seen: &mut ParametricArgs,
 ) -> Result<Resolved, AllocError>
-    ensures { IfOk result (λ r. seen_by.GivenFrom types.now ty given.now seen.old seen.new r) }
+    ensures { IfOk result (λ r. seen_by.GivenFrom (item_names f.now) types.now ty given.now seen.old seen.new r) }
 {
     let typing = given.constant.typing;
     let own = wanted_faults(types, given.span, ty, typing.ty);

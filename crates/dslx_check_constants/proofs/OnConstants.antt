@@ -1,5 +1,6 @@
 -- Constants: what code finds of them is what the definitions say.
 use Rattle.std.proofs.Common.{◌≡◌, ◌++◌, ◌∙◌, ◌&&◌, ◌||◌, ◌==◌, ◌≤◌, ◌<◌, ◌+◌, ℕ, zero, suc, Bool, true, false, not, List, [], ◌∷◌, Option, Some, None, map, length, take, drop, get_or, reverse, slice_get, arith, refl, sym, ap, subst}
+use mathlib.Core.Bool.{true≢false}
 use Rattle.std.specs.Prelude.{if◌then◌else◌, is_some, min}
 use Rattle.std.specs.List.{list_all, list_any}
 use Rattle.std.specs.Str.{bytes_eq}
@@ -12,15 +13,15 @@ use Rattle.xb_span.specs.declared.limit.What.TheVariants as what
 use Rattle.dslx_tree.specs.declared.expr.Expr.{Expr, out-Expr}
 use Rattle.dslx_meaning.specs.Lists.{and_then, is_in}
 use Rattle.dslx_meaning.specs.Environment.{Given, given_in}
-use Rattle.dslx_meaning.specs.Items.{meanings_of}
 use Rattle.dslx_meaning.specs.Meaning.{value_of}
 use Rattle.dslx_meaning.specs.declared.ty.DslxType.{DslxType}
 use Rattle.dslx_meaning.specs.declared.value.DslxValue.{DslxValue}
 use Rattle.dslx_meaning.specs.Rules.ConstantRules.{constant_of, constant_typing, is_empty, is_sound_here, names_a_local, over_size, with_size_limit}
-use Rattle.dslx_meaning.specs.Rules.Mentions.{free_names}
+use Rattle.dslx_meaning.specs.Rules.Mentions.{free_names, mentioned, names_mentioned}
 use Rattle.dslx_meaning.specs.Rules.PatternRules.{is_there}
 use Rattle.dslx_meaning.specs.Rules.RuleNumbers as rule
 use Rattle.dslx_meaning.specs.Rules.TypeEnvs.{ChannelEnd, GlobalEnv, Judgement, TypeEnv, Typed, alone, breaks_if, constant_env, has_broken, passes_count, size_if_typed, unhidden}
+use Rattle.dslx_const_tasks.specs.Values.{values_kept}
 use Rattle.dslx_check_rules.specs.declared.faults.Faults.{Faults}
 use Rattle.dslx_check_rules.specs.declared.table.row.TypeId.{TypeId}
 use Rattle.dslx_check_rules.specs.declared.table.row.TypeRow.{TypeRow}
@@ -30,7 +31,7 @@ use Rattle.dslx_check_rules.specs.Interned.{HasRowIf, ItemNames, type_if}
 use Rattle.dslx_check_nodes.specs.Parts.{IsPart}
 use Rattle.dslx_check_facts.specs.Bound.{bound_names}
 use Rattle.dslx_check_facts.specs.Judged.{environment}
-use Rattle.dslx_check_facts.specs.Known.{FactsHold, item_names, text_of}
+use Rattle.dslx_check_facts.specs.Known.{FactsHold, is_settled, item_names}
 use Rattle.dslx_check_facts.specs.TypeEnvs.{end_of, env_of, given_of, typed_of}
 use Rattle.dslx_check_facts.specs.Walks.{OnlyMisses, WalkShown, instances_at}
 use Rattle.dslx_check_facts.specs.declared.facts.Facts.{Facts}
@@ -39,8 +40,8 @@ use Rattle.dslx_check_facts.specs.declared.type_env.MemberEnd.{MemberEnd}
 use Rattle.dslx_check_facts.specs.declared.type_env.ParametricArg.{ParametricArg}
 use Rattle.dslx_check_facts.specs.declared.type_env.TypeEnv.{TypeEnv as CodeEnv}
 use Rattle.dslx_check_facts.specs.declared.walk.Need.{Need}
-use Rattle.dslx_check_facts.proofs.Lemmas.Walks.{misses_grows, nothing_missing}
-use Rattle.dslx_check_constants.specs.Constants.{ConstantFrom, args_in_scope, expr_typed, if_valued, is_local_name, some_local, unhidden_by, unless_hidden, value_in_text}
+use Rattle.dslx_check_facts.proofs.Lemmas.Walks.{misses_grows, misses_trans, nothing_missing}
+use Rattle.dslx_check_constants.specs.Constants.{ConstantFrom, IsKeptValue, IsKeptValueIf, args_in_scope, expr_typed, if_valued, is_local_name, some_local, unhidden_by, unless_hidden}
 
 -- ---- names that are bound around it
 
@@ -166,13 +167,17 @@ limit_passed end known j typing reached may faults all fs size unbroken is own b
 
 -- ---- its value
 
--- where it is evaluated, and where it has a value
-chosen : {V T N : Type 0} (sound : Bool) (ty : Option T) (size : Option N) (c v : Option V) → ((sound && is_there ty && is_there size) ≡ true → c ≡ v)
-    → (if sound && (is_there ty && is_there size) then c else None) ≡ (if sound then and_then ty (λ t. and_then size (λ n. v)) else None)
-chosen false ty size c v h = refl
-chosen true None size c v h = refl
-chosen true (Some t) None c v h = refl
-chosen true (Some t) (Some n) c v h = h refl
+-- the value, where it is evaluated and has one
+value_there : {T N : Type 0} (f : Facts) (s : CodeEnv) (e : Expr) (evaluates sound : Bool) (ty : Option T) (size : Option N) (v : Option DslxValue) (own : Option DslxValue) → IsKeptValueIf evaluates f s e v
+    → evaluates ≡ (sound && (is_there ty && is_there size)) → (IsKeptValue f s e v → v ≡ own) → v ≡ (if sound then and_then ty (λ t. and_then size (λ n. own)) else None)
+value_there f s e true true (Some t) (Some n) v own is test h = h is
+value_there f s e true true (Some t) None v own is test h = absurd (true≢false test)
+value_there f s e true true None size v own is test h = absurd (true≢false test)
+value_there f s e true false ty size v own is test h = absurd (true≢false test)
+value_there f s e false true (Some t) (Some n) v own is test h = absurd (true≢false (sym test))
+value_there f s e false true (Some t) None v own is test h = is
+value_there f s e false true None size v own is test h = is
+value_there f s e false false ty size v own is test h = is
 
 -- its typing
 valued : (items : ItemNames) (rows later : List TypeRow) (typing : Typing) (j : Judgement) (sound : Bool) (v : Option DslxValue) → IsPart items rows later typing j
@@ -212,23 +217,23 @@ counted_alike : (a b : ℕ) → a ≡ b → (a == b) ≡ true
 counted_alike a b e = (Decides-eqb a b).1 e
 
 -- what a constant comes to
-pub constant_found : (f : Facts) (s : CodeEnv) (old new : WalkShown) (from missing : ℕ) (e : Expr) (inner joined limited : Typing) (hidden is_new evaluates : Bool) (own : Faults) (reached : Reached) (value : Option DslxValue)
-    → OnlyMisses old new
-    → ((known : GlobalEnv) (later : WalkShown) → FactsHold f later known → new.missing ≡ [] → reached.sound ≡ list_all known.is_sound (instances_at (item_names f) later.met (drop from old.reached)))
-    → ((known : GlobalEnv) (later : WalkShown) → FactsHold f later known → new.missing ≡ [] → reached.unbroken ≡ list_all known.is_unbroken (instances_at (item_names f) later.met (drop from old.reached)))
+pub constant_found : (f : Facts) (s : CodeEnv) (old mid new : WalkShown) (from missing : ℕ) (e : Expr) (inner joined limited : Typing) (hidden is_new evaluates : Bool) (own : Faults) (reached : Reached) (value : Option DslxValue)
+    → OnlyMisses old mid → OnlyMisses mid new
+    → ((known : GlobalEnv) (later : WalkShown) → FactsHold f later known → mid.missing ≡ [] → reached.sound ≡ list_all known.is_sound (instances_at (item_names f) later.met (drop from old.reached)))
+    → ((known : GlobalEnv) (later : WalkShown) → FactsHold f later known → mid.missing ≡ [] → reached.unbroken ≡ list_all known.is_unbroken (instances_at (item_names f) later.met (drop from old.reached)))
     → hidden ≡ some_local s (free_names e) → own ≡ seen (breaks_if hidden rule.CONSTANT_HAS_NO_LOCALS (out-Expr e).span)
     → joined.ty ≡ inner.ty → ((a b : List Fault) → inner.faults ≡ seen a → own ≡ seen b → joined.faults ≡ seen (a ++ b)) → joined.size ≡ inner.size
     → limited.ty ≡ joined.ty → limited.size ≡ joined.size
     → ((known : GlobalEnv) (j : Judgement) → joined.faults ≡ seen j.faults → joined.size ≡ capped j.size → reached.unbroken ≡ list_all known.is_unbroken j.reached
     → limited.faults ≡ seen (with_size_limit known (out-Expr e).span.to j).faults)
-    → is_new ≡ (length new.missing == missing)
+    → is_new ≡ (length mid.missing == missing)
     → ((fs : List Fault) → limited.faults ≡ seen fs → evaluates ≡ (((is_empty fs && reached.sound) && (is_some limited.ty && is_some limited.size)) && is_new))
-    → value ≡ (if evaluates then value_in_text f s e else None)
+    → (new.missing ≡ [] → IsKeptValueIf evaluates f s e value)
     → ConstantFrom f s old new from missing inner (λ env. alone env (expr_typed e)) (λ env. constant_of env (expr_typed e))
     (record { typing = if_valued (is_some value) limited; untyped = None; value = value })
-constant_found f s old new from missing e inner joined limited hidden is_new evaluates own reached value misses sounds unbrokens hides owns joined_ty joined_faults joined_size limited_ty limited_size limits news evals values = record {
-  grows = misses_grows old new misses;
-  reached = misses.reached;
+constant_found f s old mid new from missing e inner joined limited hidden is_new evaluates own reached value misses asks sounds unbrokens hides owns joined_ty joined_faults joined_size limited_ty limited_size limits news evals values = record {
+  grows = misses_grows old new all;
+  reached = all.reached;
   comes = λ few known later has agrees there none part reaches.
       let items = item_names f in
       let env : TypeEnv = environment f s known later in
@@ -236,28 +241,30 @@ constant_found f s old new from missing e inner joined limited hidden is_new eva
       let more : List Fault = breaks_if (names_a_local env (expr_typed e)) rule.CONSTANT_HAS_NO_LOCALS (out-Expr e).span in
       let j : Judgement = record x { faults = x.faults ++ more } in
       let k : Judgement = constant_typing env (expr_typed e) in
+      let none_mid : mid.missing ≡ [] = nothing_missing mid new (misses_grows mid new asks) none in
       let of_own : own ≡ seen more = owns ∙ ap (λ b. seen (breaks_if b rule.CONSTANT_HAS_NO_LOCALS (out-Expr e).span)) (hides ∙ local_is items later.rows known s e) in
       let of_joined : joined.faults ≡ seen j.faults = joined_faults x.faults more part.faults of_own in
       let size_is : limited.size ≡ capped k.size = limited_size ∙ joined_size ∙ part.size in
       let ty_is : type_if items later.rows limited.ty ≡ k.ty = ap (type_if items later.rows) (limited_ty ∙ joined_ty) ∙ part.ty in
       let of_limits : limited.faults ≡ seen k.faults =
-      limits env.known j of_joined (joined_size ∙ part.size) (unbrokens known later agrees none ∙ ap (list_all known.is_unbroken) reaches) in
+      limits env.known j of_joined (joined_size ∙ part.size) (unbrokens known later agrees none_mid ∙ ap (list_all known.is_unbroken) reaches) in
       let row_is : HasRowIf old.rows limited.ty = subst (HasRowIf old.rows) (sym (limited_ty ∙ joined_ty)) part.row in
-      let row_new : HasRowIf new.rows limited.ty = subst (λ (rows : List TypeRow). HasRowIf rows limited.ty) (sym misses.rows) row_is in
+      let row_new : HasRowIf new.rows limited.ty = subst (λ (rows : List TypeRow). HasRowIf rows limited.ty) (sym all.rows) row_is in
       let part_is : IsPart items new.rows later.rows limited k = record { row = row_new; ty = ty_is; faults = of_limits; size = size_is } in
       let sound : Bool = is_sound_here env.known k in
-      let sound_is : reached.sound ≡ list_all known.is_sound x.reached = sounds known later agrees none ∙ ap (list_all known.is_sound) reaches in
-      let none_before : old.missing ≡ [] = nothing_missing old new (misses_grows old new misses) none in
-      let no_new : is_new ≡ true = news ∙ counted_alike (length new.missing) missing (omega (arith, no_need new.missing none, no_need old.missing none_before, few)) in
+      let sound_is : reached.sound ≡ list_all known.is_sound x.reached = sounds known later agrees none_mid ∙ ap (list_all known.is_sound) reaches in
+      let none_before : old.missing ≡ [] = nothing_missing old new (misses_grows old new all) none in
+      let no_new : is_new ≡ true = news ∙ counted_alike (length mid.missing) missing (omega (arith, no_need mid.missing none_mid, no_need old.missing none_before, few)) in
       let evaluates_is : evaluates ≡ (sound && (is_there k.ty && is_there k.size)) =
       evals k.faults of_limits
       ∙ (λ i. ((is_empty k.faults && sound_is i) && (there_too items later.rows limited.ty k.ty ty_is i && size_too limited.size k.size size_is i)) && no_new i)
       ∙ true_behind (sound && (is_there k.ty && is_there k.size)) in
-      let meant : (sound && is_there k.ty && is_there k.size) ≡ true → value_in_text f s e ≡ value_of e (constant_env env) =
-      λ fine. ap (λ (bound : List Given). value_of e (record { items = meanings_of (text_of f); bound = bound })) (args_are items later.rows known s)
-      ∙ agrees.values s.is_declaring env e refl fine in
       let value_is : value ≡ (if sound then and_then k.ty (λ t. and_then k.size (λ n. value_of e (constant_env env))) else None) =
-      values ∙ ap (λ b. if b then value_in_text f s e else None) evaluates_is ∙ chosen sound k.ty k.size (value_in_text f s e) (value_of e (constant_env env)) meant in
+      value_there f s e evaluates sound k.ty k.size value (value_of e (constant_env env)) (values none) evaluates_is
+      (λ own. own.value
+      ∙ agrees.values (values_kept f.kept) (is_settled f) (args_in_scope s) e agrees.kept
+      (ap (λ m. list_all (is_settled f) (names_mentioned m (mentioned e []))) agrees.whole ∙ own.settled) own.plain
+      ∙ ap (λ (bound : List Given). value_of e (record { items = known.items; bound = bound })) (args_are items later.rows known s)) in
       record {
         part = subst (λ (v : Option DslxValue). IsPart items new.rows later.rows (if_valued (is_some v) limited) (constant_of env (expr_typed e)).judgement) (sym value_is)
             (valued items new.rows later.rows limited k sound (value_of e (constant_env env)) part_is);
@@ -266,6 +273,9 @@ constant_found f s old new from missing e inner joined limited hidden is_new eva
       };
 }
   where
+    all : OnlyMisses old new
+    all = misses_trans old mid new misses asks
+
     true_behind : (b : Bool) → (b && true) ≡ b
     true_behind true = refl
     true_behind false = refl

@@ -1,6 +1,6 @@
 //! Constants.
 
-ghost use Rattle.std.specs.Prelude.{◌≡◌, ◌&&◌, ◌==◌, ℕ, List, [], Option, None, Some, IfOk, OnOk, if◌then◌else◌, is_some, length, map, not, reverse, slice_get};
+ghost use Rattle.std.specs.Prelude.{◌≡◌, ◌&&◌, ◌==◌, ℕ, List, [], Option, None, Some, IfOk, OnOk, if◌then◌else◌, is_some, length, map, not, reverse, slice_get, true};
 ghost use Rattle.std.specs.List.{list_all};
 ghost use Rattle.xb_span.specs.declared.fault.Fault.{Fault};
 ghost use Rattle.dslx_meaning.specs.Rules.ConstantRules as the;
@@ -12,15 +12,15 @@ ghost use Rattle.dslx_check_rules.specs.declared.table.row.TypeRow.{TypeRow};
 ghost use Rattle.dslx_check_nodes.specs.Parts.{IsConstant};
 ghost use Rattle.dslx_check_facts.specs.Bound.{bound_names};
 ghost use Rattle.dslx_check_facts.specs.TypeEnvs.{given_of};
-ghost use Rattle.dslx_check_facts.specs.Walks.{shown};
+ghost use Rattle.dslx_check_facts.specs.Walks.{OnlyMisses, shown};
 ghost use Rattle.dslx_check_facts.specs.declared.type_env.ParametricArg.{ParametricArg as ArgShown};
-ghost use Rattle.dslx_check_constants.specs.Constants.{ConstantFrom, args_in_scope, expr_typed, if_valued, is_local_name, some_local, unless_hidden, untyped_found, value_in_text};
+ghost use Rattle.dslx_check_constants.specs.Constants.{ConstantFrom, IsKeptValue, IsKeptValueIf, args_in_scope, expr_typed, if_valued, is_local_name, some_local, unless_hidden, untyped_found, kept_value};
 
 use base::texts::Name;
-use dslx_check_facts::{Facts, ParametricArg, Reached, TypeEnv, Walk, reached_since};
+use dslx_check_facts::{Facts, ParametricArg, Reached, TypeEnv, Walk, ask_settled, reached_since};
 use dslx_check_nodes::ConstantTyping;
 use dslx_check_rules::{Faults, MOST_NODES, Typing, rule};
-use dslx_const::const_eval;
+use dslx_const::const_eval_over;
 use dslx_meaning::{DslxValue, UntypedLiteral};
 use dslx_names::{Binding, Scope};
 use dslx_scope::free_names::names_free_in;
@@ -66,7 +66,7 @@ pub fn constant_typing<'a>(
     let typing = size_limited(reached, e.span.to, typing);
     let is_new = nothing_missed(w, missing);
     let evaluates = may_evaluate(typing, reached, is_new);
-    let value = value_if(f, s, e, evaluates)?;
+    let value = value_if(f, w, s, e, evaluates)?;
     Ok(with_value(typing, value))
 }
 
@@ -192,32 +192,55 @@ fn is_local(s: &TypeEnv, name: &Name) -> bool
     s.locals.has(name) || s.members.has(name) && !s.parametric_args.has(name)
 }
 
-/// The value of an expression by the text alone, if it is to be evaluated.
+/// The value of an expression by the values that are kept, if it is to be evaluated.
 fn value_if<'a>(
     f: &Facts<'a>,
+    w: &mut Walk,
     s: &TypeEnv<'a>,
     e: &'a Expr,
     evaluates: bool,
 ) -> Result<Option<DslxValue>, AllocError>
-    ensures { IfOk result (λ v. v ≡ (if evaluates then value_in_text f.now s.now e.now else None)) }
+    ensures misses { OnOk result (OnlyMisses (shown w.old) (shown w.new)) }
+    ensures value { IfOk result (λ v. (shown w.new).missing ≡ [] → IsKeptValueIf evaluates f.now s.now e.now v) }
 {
     if evaluates {
-        value_of(f, s, e)
+        value_of(f, w, s, e)
     } else {
         Ok(None)
     }
 }
 
-/// The value of an expression by the text alone.
+/// The value of an expression by the values that are kept. Nothing is used of it where it mentions an item that isn't known: that is noted.
 fn value_of<'a>(
+    f: &Facts<'a>,
+    w: &mut Walk,
+    s: &TypeEnv<'a>,
+    e: &'a Expr,
+) -> Result<Option<DslxValue>, AllocError>
+    ensures misses { OnOk result (OnlyMisses (shown w.old) (shown w.new)) }
+    ensures value { IfOk result (λ v. (shown w.new).missing ≡ [] → IsKeptValue f.now s.now e.now v) }
+{
+    ask_settled(f, w, e)?;
+    if w.missing.len() == 0 {
+        value_kept(f, s, e)
+    } else {
+        Ok(None)
+    }
+}
+
+fn value_kept<'a>(
     f: &Facts<'a>,
     s: &TypeEnv<'a>,
     e: &'a Expr,
 ) -> Result<Option<DslxValue>, AllocError>
-    ensures { IfOk result (λ v. v ≡ value_in_text f.now s.now e.now) }
+    ensures { IfOk result (λ v. v ≡ kept_value f.now s.now e.now) }
 {
+    let kept = &f.kept;
+    let text = kept.items.text;
+    let own = e;
     let scope = constant_scope(f, s)?;
-    const_eval(f.alloc, f.kept.items.text, scope, e)
+    let bound = scope;
+    const_eval_over(f.alloc, text, kept, bound, own)
 }
 
 /// The parametrics that no bound name hides, as what is bound.

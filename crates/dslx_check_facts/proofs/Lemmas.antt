@@ -9,3 +9,5 @@ pub mod Items
 pub mod Envs
 -- the first item of a name
 pub mod Firsts
+-- what is mentioned
+pub mod Mentioned

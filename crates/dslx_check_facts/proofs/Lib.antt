@@ -14,6 +14,12 @@ pub mod OnKeys
 pub mod OnLocals
 -- what is looked up
 pub mod OnLookups
+-- names without marks
+pub mod OnMarks
+-- items that are known with all that they mention
+pub mod OnSettled
+-- the types of values
+pub mod OnTypedValues
 -- members of enums
 pub mod OnMembers
 -- names of items

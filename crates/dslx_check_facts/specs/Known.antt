@@ -1,5 +1,6 @@
 -- What is known of a text, and which global environment says the same.
-use Rattle.std.specs.Prelude.{ℕ, List, [], ◌∷◌, ◌≡◌, ◌+◌, ◌==◌, ◌&&◌, ◌||◌, Bool, true, false, Option, Some, None, slice_get, if◌then◌else◌}
+use Rattle.std.specs.Prelude.{ℕ, List, [], ◌∷◌, ◌≡◌, ◌+◌, ◌==◌, ◌||◌, Bool, true, false, Option, Some, None, length, slice_get, if◌then◌else◌}
+use Rattle.std.specs.List.{list_all}
 use Rattle.std.specs.Option.{option_map}
 use Rattle.std.specs.Str.{bytes_eq}
 use Rattle.dslx_tree.specs.declared.item.Definition.{Definition}
@@ -12,13 +13,15 @@ use Rattle.dslx_meaning.specs.Lists.{and_then}
 use Rattle.dslx_tree.specs.declared.expr.Expr.{Expr}
 use Rattle.dslx_meaning.specs.Values.{type_of_value}
 use Rattle.dslx_meaning.specs.Meaning.{value_of}
-use Rattle.dslx_meaning.specs.Items.{item_named, as_constant, as_struct, as_enum, is_constant_item, meanings_of}
+use Rattle.dslx_meaning.specs.Items.{item_named, as_constant, as_struct, as_enum, is_constant_item}
+use Rattle.dslx_meaning.specs.Environment.{Given}
 use Rattle.dslx_meaning.specs.declared.value.DslxValue.{DslxValue}
-use Rattle.dslx_meaning.specs.Rules.TypeEnvs.{GlobalEnv, Instance, Judgement, TypeEnv, constant_env}
-use Rattle.dslx_meaning.specs.Rules.ConstantRules.{constant_of, constant_typing, is_sound_here}
-use Rattle.dslx_meaning.specs.Rules.NodeRules.{expr_pair}
-use Rattle.dslx_meaning.specs.Rules.PatternRules.{is_there}
+use Rattle.dslx_meaning.specs.Rules.TypeEnvs.{GlobalEnv, Instance}
+use Rattle.dslx_meaning.specs.Rules.Mentions.{mentioned, names_mentioned}
 use Rattle.dslx_meaning.specs.Rules.Namesakes.{told_apart}
+use Rattle.dslx_names.specs.ConstMachine.Kept.{KeptValues, kept_within}
+use Rattle.dslx_const_tasks.specs.Values.{values_kept}
+use Rattle.dslx_const_tasks.specs.declared.kept.Kept.{Kept}
 use Rattle.dslx_check_items.specs.Items.{item_number}
 use Rattle.dslx_check_items.specs.Reaching.{item_needs}
 use Rattle.dslx_check_rules.specs.declared.table.row.TypeId.{TypeId}
@@ -28,10 +31,9 @@ use Rattle.dslx_check_rules.specs.Interned.{ItemNames, AreDistinct, HasRowIf, ty
 use Rattle.dslx_check_facts.specs.declared.asked.ForeignKey.{ForeignKey}
 use Rattle.dslx_check_facts.specs.declared.facts.Facts.{Facts}
 use Rattle.dslx_check_facts.specs.declared.facts.ForeignSeen.{ForeignSeen}
-use Rattle.dslx_check_facts.specs.declared.facts.Kept.{Kept}
 use Rattle.dslx_check_facts.specs.declared.facts.Sums.{Sums}
-use Rattle.dslx_check_facts.specs.Names.{definition_at, names_of}
-use Rattle.dslx_check_facts.specs.TypeEnvs.{known_to}
+use Rattle.dslx_check_facts.specs.Kept.{AreKeptAlike}
+use Rattle.dslx_check_facts.specs.Names.{MentionNoMark, definition_at, names_of}
 use Rattle.dslx_check_facts.specs.Typings.{IsForeign, HasForeignRows}
 use Rattle.dslx_check_facts.specs.Walks.{WalkShown, instance_at}
 
@@ -59,6 +61,13 @@ is_so (Some b) = b
 abbrev pub is_judged : Facts → ℕ → Bool
 is_judged f i = is_so (slice_get f.judged.items i)
 
+-- whether the item is known with all that it mentions, by its number and by a name, which means the first item of it
+abbrev pub settled_at : Facts → ℕ → Bool
+settled_at f i = is_so (slice_get f.settled.items i)
+
+abbrev pub is_settled : Facts → List ℕ → Bool
+is_settled f name = is_so (and_then (item_number name (text_of f).items) (slice_get f.settled.items))
+
 -- whether the item reaches itself
 abbrev pub loops : Facts → ℕ → Bool
 loops f i = is_so (slice_get f.reaching.loops.items i)
@@ -77,11 +86,6 @@ group_named f name = and_then (item_number name (told_apart (text_of f)).items) 
 
 abbrev pub is_cyclic_named : Facts → List ℕ → List ℕ → Bool
 is_cyclic_named f owner name = bytes_eq owner name || same_group (group_named f owner) (group_named f name)
-
--- the global environment in which rule 3 asks whether two items reach one another. At what the owner mentions, which it reaches so, that is
--- whether it is reached by it, and no part of its text asks anything else
-abbrev pub by_groups : Facts → GlobalEnv → GlobalEnv
-by_groups f known = record known { is_cyclic = is_cyclic_named f }
 
 -- the type that an item names, the value of a constant, and the type of that
 abbrev pub named_type_at : Facts → ℕ → Option TypeId
@@ -127,18 +131,6 @@ names_type (Some (d.Struct s)) = true
 names_type (Some (d.Enum e)) = true
 names_type _ = false
 
--- an expression that has a value as a constant, if it has one at all: nothing that it reaches breaks a rule or passes a limit, and it has a
--- type and a size
-abbrev pub is_fine : GlobalEnv → Judgement → Bool
-is_fine known j = is_sound_here known j && is_there j.ty && is_there j.size
-
-abbrev pub has_value : TypeEnv → Expr → Bool
-has_value context e = is_fine context.known (constant_typing context (e, (expr_pair e).1))
-
--- a constant's value, if it has one, has its type
-abbrev pub HasItsValue : Judgement → Option DslxValue → Type 0
-HasItsValue j value = (v : DslxValue) → value ≡ Some v → j.ty ≡ Some (type_of_value v)
-
 -- ---- and is so
 
 pub record IsSum (known : GlobalEnv) (instance : Instance) (sums : Sums) : Type 0 where
@@ -147,7 +139,7 @@ pub record IsSum (known : GlobalEnv) (instance : Instance) (sums : Sums) : Type 
   pub size : sums.size ≡ capped (known.body_size instance)
 
 -- the global environment says of the text, where items of one name are told apart, what is known, read by a walk's tables. Of an item that
--- reaches itself it says nothing. What rule 3 asks of items it answers by groups, as `by_groups` of an environment does
+-- reaches itself it says nothing. What rule 3 asks of items it answers by groups
 pub record FactsHold (f : Facts) (later : WalkShown) (known : GlobalEnv) : Type 0 where
   pub whole : known.whole ≡ told_apart (text_of f)
   pub distinct : AreDistinct (item_names f)
@@ -177,13 +169,11 @@ pub record FactsHold (f : Facts) (later : WalkShown) (known : GlobalEnv) : Type 
   pub done : (n : ℕ) (sums : Sums) → done_at f n ≡ Some sums → IsSum known (instance_at (item_names f) later.met n) sums
   pub foreign : (n : ℕ) (k : ForeignKey) (there : ForeignSeen) → slice_get later.asked n ≡ Some k → foreign_at f n ≡ Some there
       → IsForeign (item_names f) known later k there
-  -- of constants that are sound where they stand, which mean by the text alone what they mean by what is known
-  pub values : (is_declaring : Bool) (context : TypeEnv) (e : Expr) → context.known ≡ known_to is_declaring context.owner known → has_value context e ≡ true
-      → value_of e (record { items = meanings_of (text_of f); bound = (constant_env context).bound }) ≡ value_of e (record { items = known.items; bound = (constant_env context).bound })
-  -- values of constants, and of defaults, have their types
-  pub typed : (is_declaring : Bool) (context : TypeEnv) (e : Expr) → context.known ≡ known_to is_declaring context.owner known
-      → HasItsValue (constant_of context (e, (expr_pair e).1)).judgement (constant_of context (e, (expr_pair e).1)).value
-  pub defaults : (item : List ℕ) (before : List (Option DslxValue)) → HasItsValue (known.default_in item before).judgement (known.default_in item before).value
+  -- of items that are known with all that they mention: what mentions such items alone has by the values that are kept the value that it has by
+  -- what is known
+  pub kept : AreKeptAlike known (values_kept f.kept) (is_settled f)
+  pub values : (kept : KeptValues) (P : List ℕ → Bool) (bound : List Given) (e : Expr) → AreKeptAlike known kept P → list_all P (names_mentioned known.whole (mentioned e [])) ≡ true → MentionNoMark (mentioned e [])
+      → value_of e (record { items = kept_within kept (text_of f) (length (text_of f).items); bound = bound }) ≡ value_of e (record { items = known.items; bound = bound })
 
 -- each type that is known has a row
 pub record HasKnownRows (rows : List TypeRow) (f : Facts) : Type 0 where

@@ -12,6 +12,10 @@ pub mod Walks
 pub mod TypeEnvs
 -- what a walk comes to
 pub mod Typings
+-- items that are known with all that they mention
+pub mod Kept
+-- what functions promise to each other alone
+pub mod Inner
 -- what is known of a text
 pub mod Known
 -- what a function of a walk promises

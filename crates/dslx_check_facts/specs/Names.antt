@@ -7,6 +7,7 @@ use Rattle.dslx_tree.specs.declared.item.Module.{Module}
 use Rattle.dslx_tree.specs.declared.item.Struct.{Struct}
 use Rattle.dslx_meaning.specs.Lists.{and_then}
 use Rattle.dslx_meaning.specs.Items.{name_of_definition, name_of_field, as_struct}
+use Rattle.dslx_meaning.specs.Rules.Mentions.{Mention, definition_mentions}
 use Rattle.dslx_meaning.specs.Rules.Namesakes.{mark, told_apart}
 use Rattle.dslx_check_rules.specs.Interned.{ItemNames}
 
@@ -36,3 +37,16 @@ names_of text = record {
 -- the name has no mark, as none that stands in a text has
 abbrev pub IsUnmarked : List ℕ → Type 0
 IsUnmarked name = AllByRecursion (λ b. b < mark) name
+
+-- no name that is mentioned has a mark
+abbrev pub MentionNoMark : List Mention → Type 0
+MentionNoMark mentions = AllByRecursion (λ (m : Mention). IsUnmarked m.name) mentions
+
+-- neither the name of the item has a mark nor one that its text mentions
+pub record IsPlainItem (definition : Definition) : Type 0 where
+  pub named : IsUnmarked (name_of_definition definition)
+  pub mentions : MentionNoMark (definition_mentions definition)
+
+-- so it is of each item, as it is of all that is read from a text
+abbrev pub HasNoMarks : Module → Type 0
+HasNoMarks text = AllByRecursion (λ (i : Item). IsPlainItem i.definition) text.items

@@ -4,10 +4,13 @@ ghost use Rattle.std.specs.Prelude.{◌≡◌, ℕ, None, false, IfOk, length, s
 ghost use Rattle.dslx_meaning.specs.Lists.{and_then};
 ghost use Rattle.dslx_check_items.specs.Reaching.{AreReached, item_needs};
 ghost use Rattle.dslx_check_facts.specs.Known.{at_place, is_so, text_of};
+ghost use Rattle.dslx_check_facts.specs.Names.{HasNoMarks};
 ghost use Rattle.dslx_check_facts.specs.Nothing.{IsNothingKept, IsNothingKnown};
 
+use crate::marks::text_is_plain;
 use dslx_check_items::{ItemTable, Reaching, reaching_of};
 use dslx_check_rules::{Faults, TypeId};
+use dslx_const_tasks::Kept;
 use dslx_meaning::DslxValue;
 use dslx_tree::Module;
 use std::alloc::{AllocError, Global};
@@ -51,14 +54,6 @@ pub enum ForeignSeen {
     Signature(SignatureThere),
 }
 
-/// What constants are evaluated with: the values of constants and of the members of enums.
-#[derive(Drop)]
-pub struct Kept<'a> {
-    pub items: ItemTable<'a>,
-    pub constants: Vec<Option<DslxValue>>,
-    pub members: Vec<Vec<Option<DslxValue>>>,
-}
-
 /// What is known. Items, instances and parts of other declarations are numbers.
 #[derive(Drop)]
 pub struct Facts<'a> {
@@ -68,6 +63,8 @@ pub struct Facts<'a> {
     pub reaching: Reaching,
     /// Whether an item that is no function and no proc is judged.
     pub judged: Vec<bool>,
+    /// Whether an item is known with all that it mentions.
+    pub settled: Vec<bool>,
     /// The type that an item names.
     pub named_types: Vec<Option<TypeId>>,
     /// The type of a constant's value.
@@ -78,48 +75,50 @@ pub struct Facts<'a> {
     pub foreign: Vec<Option<ForeignSeen>>,
 }
 
-impl<'a> Kept<'a> {
-    /// Where nothing is known of these items.
-    pub fn new(alloc: Global, items: ItemTable<'a>) -> Result<Kept<'a>, AllocError>
-        ensures items { IfOk result (λ kept. kept.items ≡ items.entry) }
-        ensures nothing { IfOk result IsNothingKept }
-    {
-        let count = items.len() as usize;
-        let constants = nothing_each(alloc, count)?;
-        let members = no_members(alloc, count)?;
-        Ok(Kept {
-            items,
-            constants,
-            members,
-        })
-    }
-}
-
 impl<'a> Facts<'a> {
     /// Where nothing is known of a text.
     pub fn new(alloc: Global, text: &'a Module) -> Result<Facts<'a>, AllocError>
         ensures text { IfOk result (λ f. text_of f ≡ text.now) }
         ensures reached { IfOk result (λ f. AreReached (item_needs (text_of f)) f.reaching) }
+        ensures plain { IfOk result (λ f. HasNoMarks (text_of f)) }
         ensures nothing { IfOk result IsNothingKnown }
     {
+        text_is_plain(alloc, text)?;
         let count = text.items.as_slice().len();
         let judged = none_judged(alloc, count)?;
+        let settled = none_judged(alloc, count)?;
         let named_types = nothing_each(alloc, count)?;
         let value_types = nothing_each(alloc, count)?;
         let items = ItemTable::new(alloc, text)?;
         let reaching = reaching_of(alloc, &items)?;
-        let kept = Kept::new(alloc, items)?;
+        let kept = nothing_kept(alloc, items)?;
         Ok(Facts {
             alloc,
             kept,
             reaching,
             judged,
+            settled,
             named_types,
             value_types,
             done: Vec::new(alloc),
             foreign: Vec::new(alloc),
         })
     }
+}
+
+/// Where nothing is known of these items.
+fn nothing_kept<'a>(alloc: Global, items: ItemTable<'a>) -> Result<Kept<'a>, AllocError>
+    ensures items { IfOk result (λ kept. kept.items ≡ items.entry) }
+    ensures nothing { IfOk result IsNothingKept }
+{
+    let count = items.len() as usize;
+    let constants = nothing_each(alloc, count)?;
+    let members = no_members(alloc, count)?;
+    Ok(Kept {
+        items,
+        constants,
+        members,
+    })
 }
 
 /// So many places, in none of which something stands.

@@ -95,7 +95,7 @@ fn is_same_group(a: Option<&u32>, b: Option<&u32>) -> bool
 
 /// What is so of each text: its bytes are no marks.
 #[tactic(auto, using(crate::proofs::OnNames::Bytes::unmarked_text))]
-fn unmarked(name: &Name) -> &str
+pub fn unmarked(name: &Name) -> &str
     ensures { IsUnmarked name.now }
 {
     let text = name.as_str();

@@ -40,7 +40,7 @@ pub fn is_known(f: &Facts, w: &mut Walk, item: u32) -> Result<bool, AllocError>
     Ok(false)
 }
 
-fn is_judged_now(f: &Facts, item: u32) -> bool
+pub(crate) fn is_judged_now(f: &Facts, item: u32) -> bool
     ensures { result ≡ is_judged f.now item }
 {
     match f.judged.get(item as usize) {

@@ -1,5 +1,7 @@
 -- places in tables
 pub mod OnPlaces
+-- items that are known with all that they mention
+pub mod OnSettled
 -- what is known goes on to be so
 pub mod OnLearnt
 -- items by their numbers and their names
@@ -12,3 +14,5 @@ pub mod OnInstances
 pub mod OnParts
 -- items by their kinds
 pub mod OnKinds
+-- what crates above take by name
+pub mod Lemmas

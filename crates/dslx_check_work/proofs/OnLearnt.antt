@@ -23,13 +23,15 @@ use Rattle.dslx_check_facts.specs.Nothing.{IsNothingKnown}
 use Rattle.dslx_check_facts.specs.Typings.{HasForeignRows, IsForeign}
 use Rattle.dslx_check_facts.specs.Walks.{HasTables, WalkGrows, WalkShown, instance_at, instance_or_none}
 use Rattle.dslx_check_facts.proofs.Lemmas.Judged.{known_rows_stay}
-use Rattle.dslx_check_facts.proofs.Lemmas.Walks.{tables_trans}
+use Rattle.dslx_check_facts.proofs.Lemmas.Walks.{tables_refl, tables_trans}
 use Rattle.dslx_check_declarations.specs.Items.{HasNoRow, ItemGrows, is_row_of}
 use Rattle.dslx_check_declarations.specs.declared.items.ItemSeen.{ItemSeen}
 use Rattle.dslx_check_declarations.proofs.Lemmas.Items.{no_row_stays}
-use Rattle.dslx_check_work.specs.Learnt.{IsDoneAs, IsJudgedItem, IsJudgedPart, LearnsInstance, LearnsItem, LearnsPart}
+use Rattle.dslx_check_work.specs.Learnt.{IsDoneAs, IsJudgedItem, IsJudgedPart, LearnsInstance, LearnsItem, LearnsPart, NotesSettled, PutsItem}
+use Rattle.dslx_check_work.specs.Settling.{AreSettled}
 use Rattle.dslx_check_work.specs.Tables.{KnowsBy, TablesHold}
 use Rattle.dslx_check_work.specs.Text.{IsTextEnv}
+use Rattle.dslx_check_work.proofs.OnSettled.{are_kept, notes_settled}
 use Rattle.dslx_check_work.proofs.OnPlaces.{by_place, put_else, put_here, there_else, there_here}
 
 -- ---- a walk that goes on
@@ -40,6 +42,7 @@ known_stays f old new known g k = record {
   tables = λ later tables. k.tables later (tables_trans old new later g.tables tables);
   rows = known_rows_stay old.rows new.rows f g.tables.rows k.rows;
   fresh = λ item e. no_row_stays g (k.fresh item e);
+  settled = k.settled;
 }
 
 -- ---- an item
@@ -88,7 +91,7 @@ others_fresh old new i j g ne h = record { none = λ k r at. by k r at (is_item_
     by k r at true e false q = h.none k r (g.others k r at e q)
 
 module _ (old new : Facts) (before after : WalkShown) (known : GlobalEnv) (item : ℕ) (seen : ItemSeen) (k : KnowsBy old before known) (g : ItemGrows item before after)
-    (l : LearnsItem old new item seen) (is : IsJudgedItem old after known item seen) where
+    (l : PutsItem old new item seen) (is : IsJudgedItem old after known item seen) where
   abbrev now : Facts
   now = learnt old new
 
@@ -153,8 +156,52 @@ module _ (old new : Facts) (before after : WalkShown) (known : GlobalEnv) (item 
       (λ e. absurd (true≢false (sym is_judged_now ∙ e)))
       (λ ne e. others_fresh before after item j g ne (k.fresh j (ap is_so (sym (put_else l.judged j ne)) ∙ e)))
 
-  pub item_known : KnowsBy new after known
-  item_known = subst (λ (f : Facts). KnowsBy f after known) (sym l.rest) (record { text = k.text; tables = item_tables; rows = item_rows; fresh = item_fresh })
+  still_judged : (j : ℕ) → is_judged old j ≡ true → is_judged now j ≡ true
+  still_judged j = by_place (λ (j : ℕ). is_judged old j ≡ true → is_judged now j ≡ true) item j (λ e. is_judged_now) (λ ne e. ap is_so (put_else l.judged j ne) ∙ e)
+
+  item_settled : AreSettled now known
+  item_settled = record {
+    needs = k.settled.needs;
+    free = k.settled.free;
+    judged = λ j e. still_judged j (k.settled.judged j e);
+    types = k.settled.types;
+    unjudged = λ j. by_place (λ (j : ℕ). is_judged now j ≡ false → at_place new.kept.constants.items j ≡ None) item j
+        (λ e. absurd (true≢false (sym is_judged_now ∙ e)))
+        (λ ne e. ap (λ o. and_then o (λ a. a)) (put_else l.value j ne) ∙ k.settled.unjudged j (ap is_so (sym (put_else l.judged j ne)) ∙ e));
+  }
+
+  put_known : KnowsBy new after known
+  put_known = subst (λ (f : Facts). KnowsBy f after known) (sym l.rest) (record { text = k.text; tables = item_tables; rows = item_rows; fresh = item_fresh; settled = item_settled })
+
+-- ---- what is noted
+
+module _ (old new : Facts) (walk : WalkShown) (known : GlobalEnv) (item : ℕ) (k : KnowsBy old walk known) (n : NotesSettled old new item) where
+  noted_tables : (later : WalkShown) → HasTables walk later → TablesHold (record old { settled = new.settled }) later known
+  noted_tables later tables = record {
+    type_named = h.type_named;
+    struct_named = h.struct_named;
+    constant = h.constant;
+    constant_type = h.constant_type;
+    member = h.member;
+    done = h.done;
+    foreign = h.foreign;
+  }
+    where
+      h : TablesHold old later known
+      h = k.tables later tables
+
+  noted_known : KnowsBy new walk known
+  noted_known = subst (λ (f : Facts). KnowsBy f walk known) (sym n.rest) (record {
+    text = k.text;
+    tables = noted_tables;
+    rows = record { named = k.rows.named; values = k.rows.values; foreign = k.rows.foreign };
+    fresh = k.fresh;
+    settled = notes_settled old new walk known item (k.tables walk (tables_refl walk)) k.settled n;
+  })
+
+pub item_known : (old new : Facts) (before after : WalkShown) (known : GlobalEnv) (item : ℕ) (seen : ItemSeen) → KnowsBy old before known → ItemGrows item before after
+    → LearnsItem old new item seen → IsJudgedItem old after known item seen → KnowsBy new after known
+item_known old new before after known item seen k g l is = noted_known l.put new after known item (put_known old l.put before after known item seen k g l.puts is) l.notes
 
 -- ---- an instance
 
@@ -180,8 +227,13 @@ module _ (old new : Facts) (walk : WalkShown) (known : GlobalEnv) (instance : �
       h = k.tables later tables
 
   pub instance_known : KnowsBy new walk known
-  instance_known = subst (λ (f : Facts). KnowsBy f walk known) (sym l.rest)
-      (record { text = k.text; tables = instance_tables; rows = record { named = k.rows.named; values = k.rows.values; foreign = k.rows.foreign }; fresh = k.fresh })
+  instance_known = subst (λ (f : Facts). KnowsBy f walk known) (sym l.rest) (record {
+    text = k.text;
+    tables = instance_tables;
+    rows = record { named = k.rows.named; values = k.rows.values; foreign = k.rows.foreign };
+    fresh = k.fresh;
+    settled = record { needs = k.settled.needs; free = k.settled.free; judged = k.settled.judged; types = k.settled.types; unjudged = k.settled.unjudged };
+  })
 
 -- ---- a part of a declaration
 
@@ -214,7 +266,13 @@ module _ (old new : Facts) (walk : WalkShown) (known : GlobalEnv) (number : ℕ)
   }
 
   pub part_known : KnowsBy new walk known
-  part_known = subst (λ (f : Facts). KnowsBy f walk known) (sym l.rest) (record { text = k.text; tables = part_tables; rows = part_rows; fresh = k.fresh })
+  part_known = subst (λ (f : Facts). KnowsBy f walk known) (sym l.rest) (record {
+    text = k.text;
+    tables = part_tables;
+    rows = part_rows;
+    fresh = k.fresh;
+    settled = record { needs = k.settled.needs; free = k.settled.free; judged = k.settled.judged; types = k.settled.types; unjudged = k.settled.unjudged };
+  })
 
 -- ---- nothing
 
@@ -239,6 +297,13 @@ nothing_known f walk known n text empty = record {
     foreign = λ i t e. absurd (nothing_here (foreign_at f i) t (n.foreign i) e);
   };
   fresh = λ item e. record { none = λ k r at. absurd (none-some r (ap (λ rows. slice_get rows k) (sym empty) ∙ at)) };
+  settled = record {
+    needs = λ i j e need. absurd (true≢false (sym e ∙ n.settled i));
+    free = λ i e. absurd (true≢false (sym e ∙ n.settled i));
+    judged = λ i e. absurd (true≢false (sym e ∙ n.settled i));
+    types = λ i x e at names. absurd (true≢false (sym e ∙ n.settled i));
+    unjudged = λ i e. n.kept.constants i;
+  };
 }
 
 -- ---- what is so of what is known
@@ -265,9 +330,8 @@ facts_hold f walk later known k tables = record {
   no_member = k.text.no_member;
   done = h.done;
   foreign = h.foreign;
+  kept = are_kept f later known k.text h k.settled;
   values = k.text.values;
-  typed = k.text.typed;
-  defaults = k.text.defaults;
 }
   where
     h : TablesHold f later known

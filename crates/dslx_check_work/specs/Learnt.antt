@@ -1,5 +1,5 @@
 -- What is learnt of a text: of an item, of an instance, of a part of a declaration.
-use Rattle.std.specs.Prelude.{ℕ, List, ◌≡◌, ◌<◌, ◌==◌, true, Option, Some, length, slice_get, slice_set, if◌then◌else◌}
+use Rattle.std.specs.Prelude.{ℕ, List, ◌≡◌, ◌<◌, ◌==◌, ◌&&◌, ◌||◌, true, Option, Some, length, slice_get, slice_set, if◌then◌else◌}
 use Rattle.std.specs.Option.{option_map}
 use Rattle.dslx_tree.specs.declared.item.Enum.{Enum}
 use Rattle.dslx_tree.specs.declared.item.Struct.{Struct}
@@ -13,10 +13,11 @@ use Rattle.dslx_check_facts.specs.declared.facts.Facts.{Facts}
 use Rattle.dslx_check_facts.specs.declared.facts.ForeignSeen.{ForeignSeen}
 use Rattle.dslx_check_facts.specs.declared.facts.Sums.{Sums}
 use Rattle.dslx_check_facts.specs.declared.instances.InstanceKey.{InstanceKey}
-use Rattle.dslx_check_facts.specs.Known.{IsSum, at_place, item_at, item_names, member_number}
+use Rattle.dslx_check_facts.specs.Known.{IsSum, at_place, item_at, item_names, member_number, settled_at}
 use Rattle.dslx_check_facts.specs.Typings.{HasForeignRows, IsForeign}
 use Rattle.dslx_check_facts.specs.Walks.{HasTables, WalkShown, instance_at}
 use Rattle.dslx_check_declarations.specs.declared.items.ItemSeen.{ItemSeen}
+use Rattle.dslx_check_work.specs.Settling.{may_settle}
 
 -- ---- places
 
@@ -31,8 +32,8 @@ pub record PutsThere {A : Type 0} (old new : List (Option A)) (at : ℕ) (value 
 
 -- ---- what changes
 
--- an item is judged
-pub record LearnsItem (old new : Facts) (item : ℕ) (seen : ItemSeen) : Type 0 where
+-- what an item comes to is put there
+pub record PutsItem (old new : Facts) (item : ℕ) (seen : ItemSeen) : Type 0 where
   pub named : PutsAtPlace old.named_types.items new.named_types.items item seen.named_type
   pub value_type : PutsAtPlace old.value_types.items new.value_types.items item seen.value_type
   pub value : PutsAtPlace old.kept.constants.items new.kept.constants.items item seen.value
@@ -49,6 +50,17 @@ pub record LearnsItem (old new : Facts) (item : ℕ) (seen : ItemSeen) : Type 0 
 pub record LearnsInstance (old new : Facts) (instance : ℕ) (sums : Sums) : Type 0 where
   pub done : PutsThere old.done.items new.done.items instance sums
   pub rest : new ≡ record old { done = new.done }
+
+-- that the item is known with all that it mentions is noted, if it is so
+pub record NotesSettled (old new : Facts) (item : ℕ) : Type 0 where
+  pub flags : (j : ℕ) → settled_at new j ≡ (settled_at old j || (j == item && may_settle old item))
+  pub rest : new ≡ record old { settled = new.settled }
+
+-- an item is judged
+pub record LearnsItem (old new : Facts) (item : ℕ) (seen : ItemSeen) : Type 0 where
+  pub put : Facts
+  pub puts : PutsItem old put item seen
+  pub notes : NotesSettled put new item
 
 -- a part of a declaration is judged
 pub record LearnsPart (old new : Facts) (number : ℕ) (there : ForeignSeen) : Type 0 where

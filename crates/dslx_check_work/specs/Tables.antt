@@ -16,6 +16,7 @@ use Rattle.dslx_check_facts.specs.Known.{HasKnownRows, IsSum, done_at, foreign_a
 use Rattle.dslx_check_facts.specs.Typings.{IsForeign}
 use Rattle.dslx_check_facts.specs.Walks.{HasTables, WalkShown, instance_at}
 use Rattle.dslx_check_declarations.specs.Items.{HasNoRow}
+use Rattle.dslx_check_work.specs.Settling.{AreSettled}
 use Rattle.dslx_check_work.specs.Text.{IsTextEnv}
 
 -- what is there of items that are judged, of instances that are done, and of parts of declarations, is what the global environment has of them
@@ -37,4 +38,5 @@ pub record KnowsBy (f : Facts) (walk : WalkShown) (known : GlobalEnv) : Type 0 w
   pub text : IsTextEnv (text_of f) f.reaching known
   pub tables : (later : WalkShown) → HasTables walk later → TablesHold f later known
   pub rows : HasKnownRows walk.rows f
+  pub settled : AreSettled f known
   pub fresh : (item : ℕ) → is_judged f item ≡ false → HasNoRow walk.rows item

@@ -1,9 +1,10 @@
 //! What is learnt of a text.
 
 ghost use Rattle.std.specs.Prelude.{◌≡◌, OnOk};
-ghost use Rattle.dslx_check_work.specs.Learnt.{LearnsInstance, LearnsItem, LearnsPart};
+ghost use Rattle.dslx_check_work.specs.Learnt.{LearnsInstance, LearnsItem, LearnsPart, PutsItem};
 
 use crate::places::{put, put_there};
+use crate::settling::note_settled;
 use dslx_check_declarations::ItemSeen;
 use dslx_check_facts::{Facts, ForeignSeen, Sums};
 use std::alloc::AllocError;
@@ -11,6 +12,13 @@ use std::alloc::AllocError;
 /// An item is judged: what it comes to is known from here on.
 pub fn learn_item(f: &mut Facts, item: u32, seen: ItemSeen) -> Result<(), AllocError>
     ensures { OnOk result (LearnsItem f.old f.new item seen) }
+{
+    put_item(f, item, seen)?;
+    note_settled(f, item)
+}
+
+fn put_item(f: &mut Facts, item: u32, seen: ItemSeen) -> Result<(), AllocError>
+    ensures { OnOk result (PutsItem f.old f.new item seen) }
 {
     put(&mut f.named_types, item, seen.named_type)?;
     put(&mut f.value_types, item, seen.value_type)?;

@@ -3,6 +3,7 @@
 
 pub mod laws;
 mod learn;
-mod places;
+pub mod places;
+mod settling;
 
 pub use learn::{learn_instance, learn_item, learn_part};

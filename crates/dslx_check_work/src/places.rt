@@ -20,11 +20,7 @@ pub(crate) fn put<T: Drop>(list: &mut Vec<T>, at: u32, value: T) -> Result<(), A
 
 /// PutsAtPlace something at a place, which is made if it isn't there, as are those before it, where nothing stands then.
 #[tactic(auto, using(crate::proofs::OnPlaces::puts_there))]
-pub(crate) fn put_there<T: Drop>(
-    places: &mut Vec<Option<T>>,
-    at: u32,
-    value: T,
-) -> Result<(), AllocError>
+pub fn put_there<T: Drop>(places: &mut Vec<Option<T>>, at: u32, value: T) -> Result<(), AllocError>
     ensures { OnOk result (PutsThere places.old.items places.new.items at value) }
 {
     make_place(places, at)?;

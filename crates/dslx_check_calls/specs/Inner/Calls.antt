@@ -19,7 +19,7 @@ use Rattle.dslx_check_control.specs.declared.calls.ParametricArgument.{Parametri
 use Rattle.dslx_check_control.specs.Calls.{AreGiven, IsTypeIf}
 use Rattle.dslx_check_calls.specs.declared.parametrics.CalledItem.{CalledItem}
 use Rattle.dslx_check_calls.specs.declared.parametrics.ParametricArgs.{ParametricArgs}
-use Rattle.dslx_check_calls.specs.Called.{HaveOwnTypes, right_call_by}
+use Rattle.dslx_check_calls.specs.Called.{right_call_by}
 use Rattle.dslx_check_calls.specs.Arguments.{Sees, Finds, AreArgs}
 
 -- the parametrics of a call by what is given and by the operands
@@ -28,7 +28,7 @@ args_of_call known owner f gs xs =
     parametric_args_seen known owner (inferred_by f.arguments (types_of (judgements xs))) (maybe_inferred f.arguments (types_of (judgements xs))) (known_before []) f.parametrics gs
 
 abbrev pub CallArgs : Facts → CalledItem → WalkShown → WalkShown → Function → List ParametricArgument → List Spanned → ParametricArgs → Type 0
-CallArgs f callee w0 w1 function given operands args = Finds f callee w0 w1 (λ names seen_as later. (gs : List GivenSeen) (xs : List Placed) → HaveOwnTypes gs → AreGiven names w0.rows later.rows given gs
+CallArgs f callee w0 w1 function given operands args = Finds f callee w0 w1 (λ names seen_as later. (gs : List GivenSeen) (xs : List Placed) → AreGiven names w0.rows later.rows given gs
     → ArePlaced names w0.rows later.rows operands xs → length given ≤ length function.parametrics → AreArgs names later callee.is_cyclic args (args_of_call seen_as (names.item callee.item) function gs xs))
 
 -- an instance that is met and reached, and how many nodes its body has
@@ -87,7 +87,7 @@ pub record RightFrom (f : Facts) (callee : CalledItem) (w0 w1 : WalkShown) (span
   pub grows : WalkGrows w0 w1
   pub says : (known seen_as : GlobalEnv) (later : WalkShown) → HasTables w1 later → FactsHold f later known → Sees f callee known seen_as → HasKnownRows w0.rows f → w1.missing ≡ []
       → (item_names f).item callee.item ≡ function.name.name → length given ≤ length function.parametrics
-      → (gs : List GivenSeen) (xs : List Placed) → HaveOwnTypes gs → AreGiven (item_names f) w0.rows later.rows given gs → ArePlaced (item_names f) w0.rows later.rows operands xs
+      → (gs : List GivenSeen) (xs : List Placed) → AreGiven (item_names f) w0.rows later.rows given gs → ArePlaced (item_names f) w0.rows later.rows operands xs
       → IsPart (item_names f) w1.rows later.rows j
       (right_call_by span seen_as function gs xs (breaks_if callee.is_cyclic rule.NO_ITEM_REACHES_ITSELF span) (args_of_call seen_as function.name.name function gs xs))
       × (call_parts_reached gs (judgements xs) ++ instances_at (item_names f) later.met (drop (length w0.reached) w1.reached)

@@ -21,7 +21,6 @@ use Rattle.dslx_check_rules.specs.Interned.{AreDistinct, HasRowIf, ItemNames, ty
 use Rattle.dslx_check_facts.specs.declared.facts.Facts.{Facts}
 use Rattle.dslx_check_facts.specs.declared.facts.DefaultThere.{DefaultThere}
 use Rattle.dslx_check_facts.specs.declared.facts.TypingThere.{TypingThere}
-use Rattle.dslx_check_facts.specs.Known.{HasItsValue}
 use Rattle.dslx_check_facts.specs.Walks.{WalkShown, WalkGrows, instances_at}
 use Rattle.dslx_check_control.specs.declared.calls.ParametricArgument.{ParametricArgument}
 use Rattle.dslx_check_control.specs.Calls.{IsGiven}
@@ -131,20 +130,18 @@ abbrev pub not_given_by : Parametric → List InferredNumber → List (List ℕ)
 not_given_by p numbers maybe known owner before t = not_given known owner before p t (is_in p.name.name maybe) (parametric_args_for p.name.name numbers)
 
 -- a default that is there
-pub record NotesDefault (rows : List TypeRow) (ty : Option TypeId) (at : Span) (default : DefaultThere) (old new : ParametricArgs) (r : Resolved) : Type 0 where
-  pub value : (names : ItemNames) (later : List TypeRow) → AreDistinct names → IsPrefix rows later → HasRowIf rows ty → HasRowIf rows default.typing.ty
-      → ((v : DslxValue) → default.value ≡ Some v → type_if names later default.typing.ty ≡ Some (type_of_value v)) → IsResolved r (resolved_value (of_type (type_if names later ty) default.value))
-  pub declared : (names : ItemNames) (later : List TypeRow) (a b : List Fault) → AreDistinct names → IsPrefix rows later → HasRowIf rows ty → HasRowIf rows default.typing.ty → old.declared ≡ seen a
+pub record NotesDefault (names : ItemNames) (rows : List TypeRow) (ty : Option TypeId) (at : Span) (default : DefaultThere) (old new : ParametricArgs) (r : Resolved) : Type 0 where
+  pub value : (later : List TypeRow) → AreDistinct names → IsPrefix rows later → HasRowIf rows ty → HasRowIf rows default.typing.ty → IsResolved r (resolved_value (of_type (type_if names later ty) default.value))
+  pub declared : (later : List TypeRow) (a b : List Fault) → AreDistinct names → IsPrefix rows later → HasRowIf rows ty → HasRowIf rows default.typing.ty → old.declared ≡ seen a
       → default.typing.faults ≡ seen b → new.declared ≡ seen (a ++ (b ++ wanted_faults at (type_if names later ty) (type_if names later default.typing.ty)))
   pub reaches : new.reached.items ≡ old.reached.items ++ default.typing.reached.items
   pub rest : OnlyThere old new
 
 -- what is given for a parametric
-pub record GivenFrom (rows : List TypeRow) (ty : Option TypeId) (given : ParametricArgument) (old new : ParametricArgs) (r : Resolved) : Type 0 where
-  pub value : (names : ItemNames) (later : List TypeRow) → AreDistinct names → IsPrefix rows later → HasRowIf rows ty → HasRowIf rows given.constant.typing.ty
-      → ((v : DslxValue) → given.constant.value ≡ Some v → type_if names later given.constant.typing.ty ≡ Some (type_of_value v))
+pub record GivenFrom (names : ItemNames) (rows : List TypeRow) (ty : Option TypeId) (given : ParametricArgument) (old new : ParametricArgs) (r : Resolved) : Type 0 where
+  pub value : (later : List TypeRow) → AreDistinct names → IsPrefix rows later → HasRowIf rows ty → HasRowIf rows given.constant.typing.ty
       → IsResolved r (resolved_value (of_type (type_if names later ty) given.constant.value))
-  pub faults : (names : ItemNames) (later : List TypeRow) (fs : List Fault) → AreDistinct names → IsPrefix rows later → HasRowIf rows ty → HasRowIf rows given.constant.typing.ty → old.faults ≡ seen fs
+  pub faults : (later : List TypeRow) (fs : List Fault) → AreDistinct names → IsPrefix rows later → HasRowIf rows ty → HasRowIf rows given.constant.typing.ty → old.faults ≡ seen fs
       → new.faults ≡ seen (fs ++ wanted_faults given.span (type_if names later ty) (type_if names later given.constant.typing.ty))
   pub rest : new ≡ record old { faults = new.faults }
 
@@ -163,7 +160,7 @@ argument_by known owner before p t numbers maybe (Some g) =
 
 abbrev pub IsGivenIf : ItemNames → List TypeRow → List TypeRow → Option ParametricArgument → Option GivenSeen → Type 0
 IsGivenIf names rows later None None = Unit {0}
-IsGivenIf names rows later (Some g) (Some x) = IsGiven names rows later g x × HasItsValue x.seen.judgement x.seen.value
+IsGivenIf names rows later (Some g) (Some x) = IsGiven names rows later g x
 IsGivenIf names rows later _ _ = ⊥
 
 -- the next parametric's argument

@@ -141,7 +141,7 @@ not_named_by : (b : Bool) (i : Item) (o : Option ℕ) (found : Option Definition
 not_named_by true i o found e none = absurd (none-some 0 (sym e))
 not_named_by false i o found e none = none (none_behind o e)
 
-not_named : (name : List ℕ) (is : List Item) → item_number name is ≡ None → item_named name is ≡ None
+pub not_named : (name : List ℕ) (is : List Item) → item_number name is ≡ None → item_named name is ≡ None
 not_named name [] e = refl
 not_named name (i ∷ is) e = not_named_by (bytes_eq name (name_of_definition i.definition)) i (item_number name is) (item_named name is) e (not_named name is)
 

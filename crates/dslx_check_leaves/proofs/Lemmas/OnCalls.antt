@@ -35,7 +35,7 @@ use Rattle.dslx_check_leaves.proofs.Lemmas.Walking.{all_dropped}
 use Rattle.dslx_check_control.specs.Calls.{AreGiven, counting_of, misfits, updating_of}
 use Rattle.dslx_check_control.specs.Effects.{joining_of}
 use Rattle.dslx_check_leaves.specs.Typed.{builtin_by, counting_at, function_at, given_at, placed, placed_token}
-use Rattle.dslx_check_calls.specs.Called.{HaveOwnTypes, CallFrom, call_by_parts, call_if}
+use Rattle.dslx_check_calls.specs.Called.{CallFrom, call_by_parts, call_if}
 use Rattle.dslx_check_leaves.specs.Walked.{all_reached, reached_there}
 use Rattle.dslx_check_leaves.proofs.Lemmas.Each.{append_nil}
 use Rattle.dslx_check_leaves.proofs.Lemmas.Scopes.{arg_level}
@@ -165,13 +165,8 @@ pub refused_from : {f : Facts} {s : CodeEnv} {w : WalkShown} {span : Span} {give
     → CallFrom f s w w given operands j (λ env gs xs. wrong_call span gs (judgements xs) [])
 refused_from {f} {s} {w} {span} {given} {operands} {j} typed = record {
   grows = grows_refl w;
-  comes = λ known later has holds rows missing gs xs well are placed.
+  comes = λ known later has holds rows missing gs xs are placed.
       let names = item_names f in
       let cpr = call_parts_reached gs (judgements xs) in
       (typed names later.rows gs xs has.rows are placed, ap (λ l. cpr ++ instances_at names later.met l) (all_dropped w.reached) ∙ append_nil cpr);
 }
-
--- what is written has the type of its value
-pub given_typed : (f : Facts) (s : CodeEnv) (args : List Arg) (known : GlobalEnv) (later : WalkShown) → FactsHold f later known → HaveOwnTypes (map (given_at (environment f s known later)) args)
-given_typed f s [] known later holds = tt
-given_typed f s (a ∷ args) known later holds = (holds.typed s.is_declaring (environment f s known later) (out-Arg a).value refl, given_typed f s args known later holds)

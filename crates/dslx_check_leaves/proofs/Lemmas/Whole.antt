@@ -30,7 +30,7 @@ use Rattle.dslx_check_control.specs.declared.calls.ParametricArgument.{Parametri
 use Rattle.dslx_check_control.specs.Calls.{AreGiven, IsGiven}
 use Rattle.dslx_check_constants.specs.Constants.{expr_typed}
 use Rattle.dslx_check_leaves.specs.Typed.{given_at, placed, placed_field, placed_value}
-use Rattle.dslx_check_calls.specs.Called.{HaveOwnTypes, CallFrom}
+use Rattle.dslx_check_calls.specs.Called.{CallFrom}
 use Rattle.dslx_check_uses.specs.Uses.{NodeFrom}
 use Rattle.dslx_check_leaves.specs.Walked.{Claim, WalksTo, TypesPart, TypesConstant, TypesEach, TypesOne, all_reached, given_reached, reached_if, reached_there}
 use Rattle.dslx_check_leaves.proofs.Lemmas.Walking.{Both, both, behind_both, constant_stays, halved, nothing_reached, reached_both, same_types}
@@ -107,9 +107,9 @@ given_reach (g ∷ gs) = ap (λ ys. g.seen.judgement.reached ++ ys) (given_reach
 pub call_from : {f : Facts} {s0 s1 s2 : CodeEnv} {w0 w1 w2 w3 : WalkShown} {given : List ParametricArgument} {operands : List Spanned} {j : Typing} {G : TypeEnv → List GivenSeen} {X : TypeEnv → List Placed}
     {half : TypeEnv → List GivenSeen → List Placed → Judgement}
     → WalksTo f s0 s1 w0 w1 (TypesEach IsGiven given_reached given G) → WalksTo f s1 s2 w1 w2 (TypesEach IsPlaced reached_there operands X) → CallFrom f s2 w2 w3 given operands j half
-    → ((xs : List Placed) → reached_of_all (judgements xs) ≡ all_reached reached_there xs) → ((known : GlobalEnv) (later : WalkShown) → FactsHold f later known → HaveOwnTypes (G (environment f s0 known later)))
+    → ((xs : List Placed) → reached_of_all (judgements xs) ≡ all_reached reached_there xs)
     → WalksTo f s0 s2 w0 w3 (TypesPart j (λ env. half env (G env) (X env)))
-call_from {f} {s0} {s1} {s2} {w0} {w1} {w2} {w3} {given} {operands} {j} {G} {X} {half} g k h places typed = record {
+call_from {f} {s0} {s1} {s2} {w0} {w1} {w2} {w3} {given} {operands} {j} {G} {X} {half} g k h places = record {
   grows = grows_trans w0 w2 w3 both_walked.grows h.grows;
   sight = both_walked.sight;
   holds = λ known later has agrees there none.
@@ -118,7 +118,7 @@ call_from {f} {s0} {s1} {s2} {w0} {w1} {w2} {w3} {given} {operands} {j} {G} {X} 
       let t = both_walked.holds known later (tables_trans w2 w3 later h.grows.tables has) agrees there (nothing_missing w2 w3 h.grows none) in
       let there_too : HasRows f s2 w2 = subst (λ (s : CodeEnv). HasRows f s w2) (sym both_walked.sight) (rows_stay f s0 w0 w2 both_walked.grows.tables there) in
       let gs : AreGiven names w2.rows later.rows given (G env) = each_weaker (IsGiven names w1.rows later.rows) (IsGiven names w2.rows later.rows) given (G env) (λ x y. given_stays names w1.rows w2.rows later.rows x y t.grows) t.first.parts in
-      let k = h.comes known later has agrees there_too none (G env) (X env) (typed known later agrees) gs t.second.parts in
+      let k = h.comes known later has agrees there_too none (G env) (X env) gs t.second.parts in
       let parts : instances_at names later.met (drop (length w0.reached) w2.reached) ≡ call_parts_reached (G env) (judgements (X env)) =
       reached_both names later.met (drop (length w0.reached) w2.reached) t.front t.rest (all_reached given_reached (G env)) (all_reached reached_there (X env)) t.joined t.first.reaches t.second.reaches
       ∙ (λ i. sym (given_reach (G env)) i ++ sym (places (X env)) i) in

@@ -486,7 +486,7 @@ calls::call-returns-in-Builtin t c = IfOk-weaker c.builtin.result _ _
 pub calls::function_call-returns : goal.calls::function_call-returns
 calls::function_call-returns t c = IfOk-weaker c.call_of.result _ _
     (λ j h. walk.retyped (calls.call_parts_are c.args.span c.args.name.now c.args.args.now c.args.operands.now)
-    (whole.call_from (own.in_slice c.as_slice.ensures.value c.in_ok-given.ensures) (own.in_slice c.as_slice-2.ensures.value c.in_ok-parts.ensures) h calls.places_reach (calls.given_typed c.args.f.now c.args.s.now c.args.args.now)))
+    (whole.call_from (own.in_slice c.as_slice.ensures.value c.in_ok-given.ensures) (own.in_slice c.as_slice-2.ensures.value c.in_ok-parts.ensures) h calls.places_reach))
     c.call_of.ensures
 
 -- ---- builtins
@@ -502,7 +502,7 @@ builtins::builtin-returns-in-len1-up t c = IfOk-weaker c.refused.result _ _
 pub builtins::refused-returns : goal.builtins::refused-returns
 builtins::refused-returns t c = walk.retyped (calls.refused_is c.args.span c.args.args.now c.args.operands.now)
     (whole.call_from (own.in_slice c.as_slice.ensures.value c.in_ok-given.ensures) (own.in_slice c.as_slice-2.ensures.value c.in_ok-parts.ensures)
-    (calls.refused_from (λ names later gs xs p are at. c.refused_call.ensures names later gs xs [] p are at c.none.ensures)) calls.places_reach (calls.given_typed c.args.f.now c.args.s.now c.args.args.now))
+    (calls.refused_from (λ names later gs xs p are at. c.refused_call.ensures names later gs xs [] p are at c.none.ensures)) calls.places_reach)
 
 pub builtins::joining-returns : goal.builtins::joining-returns
 builtins::joining-returns t c = walk.by_half c.joining_typing.result c.joining_typing.ensures.grows c.joining_typing.ensures.items c.joining_typing.ensures.typed

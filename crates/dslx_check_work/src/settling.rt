@@ -1,0 +1,102 @@
+//! Which items are known with all that they mention.
+
+ghost use Rattle.std.specs.Prelude.{◌≡◌, Some, OnOk, is_some};
+ghost use Rattle.std.specs.List.{list_all};
+ghost use Rattle.topo_order.specs.Needs.{needs_of};
+ghost use Rattle.dslx_check_facts.specs.Known.{is_judged as is_judged_item, named_type_at, names_type, settled_at, text_of};
+ghost use Rattle.dslx_check_facts.specs.Names.{definition_at};
+ghost use Rattle.dslx_check_work.specs.Learnt.{NotesSettled};
+ghost use Rattle.dslx_check_work.specs.Settling.{is_known_part, is_there, may_settle as the_test};
+
+use crate::places::put;
+use dslx_check_facts::Facts;
+use dslx_tree::Definition;
+use std::alloc::AllocError;
+
+/// Notes that an item is known with all that it mentions, if it is.
+#[tactic(auto, using(crate::proofs::OnSettled::flag_left, crate::proofs::OnSettled::flag_set))]
+pub(crate) fn note_settled(f: &mut Facts, item: u32) -> Result<(), AllocError>
+    ensures { OnOk result (NotesSettled f.old f.new item) }
+{
+    if may_settle(f, item) {
+        put(&mut f.settled, item, true)
+    } else {
+        Ok(())
+    }
+}
+
+/// It doesn't reach itself, all that it mentions is known so, and it is known itself.
+fn may_settle(f: &Facts, item: u32) -> bool
+    ensures { result ≡ the_test f.now item }
+{
+    if f.is_looping(item) {
+        false
+    } else {
+        needs_settled(f, item) && is_known(f, item)
+    }
+}
+
+fn needs_settled(f: &Facts, item: u32) -> bool
+    ensures { result ≡ list_all (settled_at f.now) (needs_of f.now.reaching.needs.items item) }
+{
+    match f.reaching.needs.get(item as usize) {
+        Some(needs) => all_settled(f, needs.as_slice()),
+        None => true,
+    }
+}
+
+fn all_settled(f: &Facts, items: &[u32]) -> bool
+    ensures { result ≡ list_all (settled_at f.now) items.now }
+{
+    items.iter().all(|item| f.is_settled(*item))
+}
+
+fn is_known(f: &Facts, item: u32) -> bool
+    ensures { result ≡ is_there f.now item (definition_at (text_of f.now).items item) }
+{
+    if item < f.kept.items.len() {
+        let definition = f.kept.items.get(item);
+        is_part_known(f, item, definition)
+    } else {
+        false
+    }
+}
+
+fn is_part_known(f: &Facts, item: u32, definition: &Definition) -> bool
+    ensures { result ≡ is_known_part f.now item definition.now }
+{
+    if is_judged(f, item) {
+        !is_type(definition) || has_type(f, item)
+    } else {
+        false
+    }
+}
+
+fn is_type(definition: &Definition) -> bool
+    ensures { result ≡ names_type (Some definition.now) }
+{
+    match definition {
+        Definition::Alias(_) => true,
+        Definition::Struct(_) => true,
+        Definition::Enum(_) => true,
+        _ => false,
+    }
+}
+
+fn is_judged(f: &Facts, item: u32) -> bool
+    ensures { result ≡ is_judged_item f.now item }
+{
+    match f.judged.get(item as usize) {
+        Some(judged) => *judged,
+        None => false,
+    }
+}
+
+fn has_type(f: &Facts, item: u32) -> bool
+    ensures { result ≡ is_some (named_type_at f.now item) }
+{
+    match f.named_types.get(item as usize) {
+        Some(Some(_)) => true,
+        _ => false,
+    }
+}
