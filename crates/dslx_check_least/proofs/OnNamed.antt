@@ -1,5 +1,6 @@
 -- Which fault is named.
-use Rattle.std.proofs.Common.{◌≡◌, ◌∙◌, ◌≤◌, ◌++◌, inl, ℕ, true, false, List, [], ◌∷◌, length, Option, Some, None, nat_lt, if◌then◌else◌, refl, sym, ap, subst, arith, append_assoc}
+use Rattle.std.proofs.Common.{◌≡◌, ◌∙◌, ◌≤◌, ◌++◌, inl, ℕ, Bool, true, false, List, [], ◌∷◌, length, Option, Some, None, nat_lt, if◌then◌else◌, refl, sym, ap, subst, arith, append_assoc}
+use mathlib.Core.Bool.{true≢false}
 use Rattle.std.proofs.lemmas.Bool.Decides.{Decides-ltb}
 use Rattle.xb_span.specs.Fault.{first_of, key_of}
 use Rattle.xb_span.specs.declared.fault.Fault.{Fault}
@@ -46,14 +47,18 @@ module _ (text : Module) (top : Option (List ℕ)) where
   abbrev outside : List Fault
   outside = (outside_instances m top).faults
 
-  pub few : ((fs gs : List Fault) → HaveSameFaults fs gs → first_of fs ≡ first_of gs) → (all : List Instance) → length all ≡ length (instances_of m top)
+  pub few : ((fs gs : List Fault) → HaveSameFaults fs gs → first_of fs ≡ first_of gs) → (all : List Instance) → length (instances_of m top) ≤ length all
       → HaveSameFaults (instances_faults (globals_of m) all) (instances_faults (globals_of m) (instances_of m top)) → nat_lt 4096 (length all) ≡ false → first_fault text top ≡ first_of (found_faults text top all)
   few one all size same small =
-      let limit : instance_limit (instances_of m top) ≡ [] = not_over (instances_of m top) (ap (nat_lt 4096) (sym size) ∙ small) in
+      let limit : instance_limit (instances_of m top) ≡ [] = not_over (instances_of m top) (small_too (nat_lt 4096 (length (instances_of m top))) refl) in
       ap (λ l. first_of (or_else_all l (names ++ items_faults m top))) limit
       ∙ ap first_of (sym (append_assoc names outside (instances_faults (globals_of m) (instances_of m top))))
       ∙ sym (one (found_faults text top all) ((names ++ outside) ++ instances_faults (globals_of m) (instances_of m top))
       (faults_behind (names ++ outside) (instances_faults (globals_of m) all) (instances_faults (globals_of m) (instances_of m top)) same))
+    where
+      small_too : (b : Bool) → nat_lt 4096 (length (instances_of m top)) ≡ b → b ≡ false
+      small_too true q = absurd (true≢false (sym ((Decides-ltb 4096 (length all)).1 (omega (arith, size, (Decides-ltb 4096 (length (instances_of m top))).0 q))) ∙ small))
+      small_too false q = refl
 
   pub many : (some : List Instance) → length some ≤ length (instances_of m top) → nat_lt 4096 (length some) ≡ true → first_fault text top ≡ Some too_many
   many some less large = ap (λ l. first_of (or_else_all l (names ++ items_faults m top))) (over (instances_of m top) (more (length some) (length (instances_of m top)) less large))

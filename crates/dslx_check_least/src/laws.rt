@@ -24,22 +24,23 @@ pub fn same_faults_name_one()
     one_place_is_one_fault();
 }
 
-/// Instances, each found once, that are the least that have those that a text starts from and all that they reach, are as many as those
-/// of the text, and have the same faults.
+/// Instances that are the least that have those that a text starts from and all that they reach have the same faults as those of the text. They are
+/// no fewer, and as many where each was found once.
 pub fn found_instances_are_all()
     ensures size { (m : Module) (top : Option (List ℕ)) (all : List Instance) → IsLeastClosed (globals_of m) (starts_of m top) all → AreInstancesApart all → length all ≡ length (instances_of m top) }
     ensures faults { (m : Module) (top : Option (List ℕ)) (all : List Instance) → IsLeastClosed (globals_of m) (starts_of m top) all
         → HaveSameFaults (instances_faults (globals_of m) all) (instances_faults (globals_of m) (instances_of m top)) }
+    ensures no_fewer { (m : Module) (top : Option (List ℕ)) (all : List Instance) → IsLeastClosed (globals_of m) (starts_of m top) all → length (instances_of m top) ≤ length all }
     ensures fewer { (m : Module) (top : Option (List ℕ)) (some : List Instance) → AreStarted (globals_of m) (starts_of m top) some → AreInstancesApart some → length some ≤ length (instances_of m top) }
 {
     dslx_core::typing::typing::what_is_checked_is_least();
 }
 
-/// So the first fault of a text is that of what is found outside all instances and in those; and where more instances are found than a text
-/// may have, the text is refused for that, whether more are to be found or not.
+/// So the first fault of a text is that of what is found outside all instances and in those; and where more instances are found, each once, than a
+/// text may have, the text is refused for that, whether more are to be found or not.
 pub fn what_is_found_names_the_first_fault()
-    ensures few { (text : Module) (top : Option (List ℕ)) (all : List Instance) → IsLeastClosed (globals_of (told_apart text)) (starts_of (told_apart text) top) all → AreInstancesApart all
-        → nat_lt 4096 (length all) ≡ false → first_fault text top ≡ first_of (found_faults text top all) }
+    ensures few { (text : Module) (top : Option (List ℕ)) (all : List Instance) → IsLeastClosed (globals_of (told_apart text)) (starts_of (told_apart text) top) all → nat_lt 4096 (length all) ≡ false
+        → first_fault text top ≡ first_of (found_faults text top all) }
     ensures many { (text : Module) (top : Option (List ℕ)) (some : List Instance) → AreStarted (globals_of (told_apart text)) (starts_of (told_apart text) top) some → AreInstancesApart some
         → nat_lt 4096 (length some) ≡ true → first_fault text top ≡ Some too_many }
 {

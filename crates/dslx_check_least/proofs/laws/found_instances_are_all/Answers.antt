@@ -19,6 +19,11 @@ returns-clause-faults c = λ m top all least.
       back = faults_among (globals_of m) (instances_of m top) all (among_all (globals_of m) (starts_of m top) (instances_of m top) all of.least least);
     }
 
+pub returns-clause-no_fewer : goal.returns-clause-no_fewer
+returns-clause-no_fewer c = λ m top all least.
+    let of = c.what_is_checked_is_least.ensures.text m top in
+    no_more (instances_of m top) all (instances_apart m top) (among_all (globals_of m) (starts_of m top) (instances_of m top) all of.least least)
+
 pub returns-clause-fewer : goal.returns-clause-fewer
 returns-clause-fewer c = λ m top some started apart.
     no_more some (instances_of m top) apart (among_all (globals_of m) (starts_of m top) some (instances_of m top) started (c.what_is_checked_is_least.ensures.text m top))
