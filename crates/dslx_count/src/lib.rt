@@ -1,0 +1,8 @@
+//! How many procs and channels the network of an accepted text has, and the limits on both.
+#![tactic(auto)]
+
+mod counting;
+mod size;
+
+pub use counting::network_size;
+pub use size::{NetworkSize, over_limit};
