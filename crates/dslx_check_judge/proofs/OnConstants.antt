@@ -35,7 +35,8 @@ use Rattle.dslx_check_leaves.specs.Walked.{Claim, TypesConstant, TypesPart, Walk
 use Rattle.dslx_check_leaves.proofs.Lemmas.Walking.{AddsTypes, Both, both, grows_rows, halved, has_rows, nothing_reached, part_stays, reached_both, same_types, with_rows}
 use Rattle.dslx_check_judge.specs.declared.constants.ConstantParts.{ConstantParts}
 use Rattle.dslx_check_judge.specs.Inner.Kinds.{JudgesNamed, TypesNamedValue, TypesWritten}
-use Rattle.dslx_check_judge.proofs.OnItems.{called, holds_named}
+use Rattle.dslx_check_judge.proofs.Lemmas.OnNames.{called}
+use Rattle.dslx_check_judge.proofs.OnItems.{holds_named}
 
 -- ---- the type that is written
 

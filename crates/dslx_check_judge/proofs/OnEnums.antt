@@ -47,9 +47,10 @@ use Rattle.dslx_check_leaves.proofs.Lemmas.Walking.{Both, both, halved, reached_
 use Rattle.dslx_check_work.specs.Comes.{ComesToMembers, ItemComesTo}
 use Rattle.dslx_check_judge.specs.declared.enums.EnumParts.{EnumParts}
 use Rattle.dslx_check_judge.specs.Inner.Kinds.{EnumNamed, TypesEnum, faults_of_enum}
-use Rattle.dslx_check_judge.specs.Inner.Lists.{IsValueAs, OfType, TypesList}
+use Rattle.dslx_check_judge.specs.Lists.{IsValueAs, OfType, TypesList}
 use Rattle.dslx_check_judge.specs.Judged.{FindsAs, JudgesItem}
-use Rattle.dslx_check_judge.proofs.OnItems.{called, holds_named, none_of, told}
+use Rattle.dslx_check_judge.proofs.Lemmas.OnNames.{called}
+use Rattle.dslx_check_judge.proofs.OnItems.{holds_named, none_of, told}
 
 -- ---- where something is missing
 

@@ -7,7 +7,6 @@ use Rattle.dslx_tree.specs.declared.ident.Ident.{Ident}
 use Rattle.dslx_tree.specs.declared.item.Alias.{Alias}
 use Rattle.dslx_tree.specs.declared.item.Definition.{Definition}
 use Rattle.dslx_tree.specs.declared.item.Definition.TheVariants as d
-use Rattle.dslx_meaning.specs.Items.{name_of_definition}
 use Rattle.xb_span.specs.declared.fault.Fault.{Fault}
 use Rattle.dslx_meaning.specs.Rules.ItemRules.{item_type_env, nothing_found, typing_of_type}
 use Rattle.dslx_meaning.specs.Rules.ModuleRules.{item_found}
@@ -21,7 +20,7 @@ use Rattle.dslx_check_rules.specs.Seen.{seen}
 use Rattle.dslx_check_facts.specs.declared.facts.Facts.{Facts}
 use Rattle.dslx_check_facts.specs.declared.type_env.TypeEnv.{TypeEnv as CodeEnv}
 use Rattle.dslx_check_facts.specs.Known.{FactsHold, HasKnownRows, item_at, item_names, text_of}
-use Rattle.dslx_check_facts.specs.Names.{definition_at, name_or}
+use Rattle.dslx_check_facts.specs.Names.{definition_at}
 use Rattle.dslx_check_facts.specs.Walks.{HasTables, WalkShown, instances_at}
 use Rattle.dslx_check_facts.proofs.Lemmas.Walks.{grows_refl, tables_refl}
 use Rattle.dslx_check_declarations.specs.declared.items.ItemSeen.{ItemSeen}
@@ -34,6 +33,7 @@ use Rattle.dslx_check_leaves.proofs.Lemmas.Walking.{all_dropped}
 use Rattle.dslx_check_work.specs.Comes.{ComesToType, ItemComesTo}
 use Rattle.dslx_check_judge.specs.Inner.Kinds.{JudgesNamed}
 use Rattle.dslx_check_judge.specs.Judged.{FindsAs, JudgesItem, is_learnt}
+use Rattle.dslx_check_judge.proofs.Lemmas.OnNames.{called}
 
 -- ---- items of numbers
 
@@ -47,10 +47,6 @@ pub told : (f : Facts) (item : ℕ) (definition x : Definition) → definition_a
 told f item definition x e at =
     let t = told_at [] (text_of f).items item definition e in
     record { name = t.0; is = same_Some x (named_as t.0 definition) (sym at ∙ t.2); at = t.2 }
-
--- what it is called
-pub called : (f : Facts) (item : ℕ) (x : Definition) → item_at f item ≡ Some x → (item_names f).item item ≡ name_of_definition x
-called f item x at = ap (name_or item) at
 
 -- ---- walks over the text of an item
 

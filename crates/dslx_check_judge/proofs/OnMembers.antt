@@ -29,9 +29,9 @@ use Rattle.dslx_check_nodes.specs.declared.parts.ConstantTyping.{ConstantTyping}
 use Rattle.dslx_check_leaves.specs.Walked.{TypesConstant, WalksTo}
 use Rattle.dslx_check_leaves.proofs.Lemmas.Walking.{halved, nothing_reached, same_types}
 use Rattle.dslx_check_judge.specs.Inner.Kinds.{constant_of_base, number_of_base}
-use Rattle.dslx_check_judge.specs.Inner.Lists.{IsValueAs, OfType, TypesElement, found_listed}
-use Rattle.dslx_check_judge.proofs.OnLists.{Adds, Parts}
-use Rattle.dslx_check_judge.proofs.OnTrees.{expr_is}
+use Rattle.dslx_check_judge.specs.Lists.{IsValueAs, OfType, TypesElement, found_listed}
+use Rattle.dslx_check_judge.proofs.Lemmas.OnLists.{Adds, Parts}
+use Rattle.dslx_check_judge.proofs.Lemmas.OnTrees.{expr_is}
 
 -- ---- the list
 

@@ -36,9 +36,10 @@ use Rattle.dslx_check_declarations.specs.Tops.{named_as}
 use Rattle.dslx_check_declarations.proofs.Lemmas.Items.{item_after, no_row_stays, nothing_put}
 use Rattle.dslx_check_leaves.specs.Walked.{Claim, WalksTo}
 use Rattle.dslx_check_judge.specs.Inner.Kinds.{JudgesNamed, StructNamed}
-use Rattle.dslx_check_judge.specs.Inner.Lists.{IsTypeAs, TypesList, inner_types_of}
-use Rattle.dslx_check_judge.proofs.OnItems.{called, holds_named, none_of}
-use Rattle.dslx_check_judge.proofs.OnLists.{Adds}
+use Rattle.dslx_check_judge.specs.Lists.{IsTypeAs, TypesList, inner_types_of}
+use Rattle.dslx_check_judge.proofs.Lemmas.OnNames.{called}
+use Rattle.dslx_check_judge.proofs.OnItems.{holds_named, none_of}
+use Rattle.dslx_check_judge.proofs.Lemmas.OnLists.{Adds}
 
 -- ---- where something is missing
 

@@ -1,15 +1,13 @@
--- What is promised of what an item and an instance come to: the walk grows, and where nothing is
--- missing behind it that is what the definitions say at each global environment that says what is known.
-use Rattle.std.specs.Prelude.{ℕ, List, [], ◌≡◌, Bool, true, false, Some, length, drop}
+-- What is promised of what an item comes to: the walk grows, and where nothing is missing behind it that is what the definitions say at each
+-- global environment that says what is known.
+use Rattle.std.specs.Prelude.{ℕ, [], ◌≡◌, Bool, true, false, Some, length, drop}
 use Rattle.dslx_tree.specs.declared.item.Definition.{Definition}
 use Rattle.dslx_tree.specs.declared.item.Definition.TheVariants as d
-use Rattle.dslx_meaning.specs.Items.{as_function}
-use Rattle.dslx_meaning.specs.declared.value.DslxValue.{DslxValue}
 use Rattle.dslx_meaning.specs.Rules.ItemRules.{Found}
-use Rattle.dslx_meaning.specs.Rules.ModuleRules.{found_of_item, item_found, size_known}
+use Rattle.dslx_meaning.specs.Rules.ModuleRules.{item_found}
 use Rattle.dslx_meaning.specs.Rules.TypeEnvs.{GlobalEnv}
 use Rattle.dslx_check_rules.specs.declared.faults.Faults.{Faults}
-use Rattle.dslx_check_rules.specs.Seen.{capped, seen}
+use Rattle.dslx_check_rules.specs.Seen.{seen}
 use Rattle.dslx_check_facts.specs.declared.facts.Facts.{Facts}
 use Rattle.dslx_check_facts.specs.Known.{FactsHold, HasKnownRows, item_at, item_names, text_of}
 use Rattle.dslx_check_facts.specs.Names.{definition_at}
@@ -17,7 +15,6 @@ use Rattle.dslx_check_facts.specs.Walks.{HasTables, WalkGrows, WalkShown, instan
 use Rattle.dslx_check_declarations.specs.declared.items.ItemSeen.{ItemSeen}
 use Rattle.dslx_check_declarations.specs.Items.{HasNoRow, ItemGrows}
 use Rattle.dslx_check_work.specs.Comes.{ItemComesTo}
-use Rattle.dslx_check_judge.specs.declared.functions.InstanceSeen.{InstanceSeen}
 
 -- ---- walks that miss nothing
 
@@ -53,13 +50,3 @@ pub record JudgesItem (f : Facts) (old new : WalkShown) (item : ℕ) (is_first :
       → FindsAs f old new j.faults (item_found known x))
   pub comes : ComesWhole f old new (λ known. (x : Definition) → definition_at (text_of f).items item ≡ Some definition → item_at f item ≡ Some x → HasNoRow old.rows item
       → MayLearn f item is_first definition → ItemComesTo f new known x j)
-
--- ---- instances
-
--- an instance with these parametric arguments of the item of a number
-pub record JudgesInstance (f : Facts) (old new : WalkShown) (item : ℕ) (definition : Definition) (values : List DslxValue) (j : InstanceSeen) : Type 0 where
-  pub grows : WalkGrows old new
-  pub finds : ComesWhole f old new (λ known. (x : Definition) → definition_at (text_of f).items item ≡ Some definition → item_at f item ≡ Some x
-      → FindsAs f old new j.faults (found_of_item known values (Some x)))
-  pub size : ComesWhole f old new (λ known. (x : Definition) → definition_at (text_of f).items item ≡ Some definition → item_at f item ≡ Some x
-      → j.size ≡ capped (size_known known values (as_function (Some x))))

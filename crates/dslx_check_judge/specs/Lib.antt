@@ -1,4 +1,6 @@
--- what items and instances come to
+-- lists whose elements have names
+pub mod Lists
+-- what items come to
 pub mod Judged
 -- contracts of private parts
 pub mod Inner

@@ -9,7 +9,7 @@ ghost use Rattle.dslx_check_rules.specs.Seen.{seen};
 ghost use Rattle.dslx_check_rules.specs.declared.table.row.TypeRow.{TypeRow as Row};
 ghost use Rattle.dslx_check_facts.specs.Walks.{shown};
 ghost use Rattle.dslx_check_leaves.specs.Walked.{WalksTo};
-ghost use Rattle.dslx_check_judge.specs.Inner.Lists.{IsValueAs, OfType, TypesElement, TypesList};
+ghost use Rattle.dslx_check_judge.specs.Lists.{IsValueAs, OfType, TypesElement, TypesList};
 ghost use Rattle.dslx_check_judge.specs.Inner.Kinds.{constant_of_base, number_of_base};
 
 use dslx_check_declarations::{MemberSeen, NamesBefore, listed_name};

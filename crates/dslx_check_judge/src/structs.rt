@@ -6,7 +6,7 @@ ghost use Rattle.dslx_check_facts.specs.Walks.{WalkGrows, shown};
 ghost use Rattle.dslx_check_declarations.specs.Items.{FindsStruct};
 ghost use Rattle.dslx_check_judge.specs.Inner.Kinds.{JudgesNamed, StructNamed};
 
-use crate::fields::{FieldsSeen, fields_seen};
+use crate::fields::fields_seen;
 use dslx_check_declarations::{ItemSeen, struct_type};
 use dslx_check_facts::{Facts, TypeEnv, Walk};
 use dslx_check_rules::{Faults, TypeId, rule, type_limits};

@@ -35,7 +35,7 @@ use Rattle.dslx_check_declarations.specs.Tops.{named_as}
 use Rattle.dslx_check_work.specs.Comes.{ItemComesTo}
 use Rattle.dslx_check_judge.specs.declared.constants.ConstantParts.{ConstantParts}
 use Rattle.dslx_check_judge.specs.declared.enums.EnumParts.{EnumParts}
-use Rattle.dslx_check_judge.specs.Inner.Lists.{IsTypeAs}
+use Rattle.dslx_check_judge.specs.Lists.{IsTypeAs}
 use Rattle.dslx_check_judge.specs.Judged.{ComesWhole, FindsAs}
 
 -- ---- items of any kind

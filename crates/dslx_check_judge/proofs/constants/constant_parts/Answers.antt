@@ -1,6 +1,6 @@
 use Rattle.std.proofs.Common.{◌++◌, refl}
 use Rattle.dslx_check_judge.proofs.OnConstants as on
-use Rattle.dslx_check_judge.proofs.OnTrees.{constant_walked}
+use Rattle.dslx_check_judge.proofs.Lemmas.OnTrees.{constant_walked}
 use Rattle.dslx_check_judge.proofs.constants.constant_parts.Goals as goal
 
 pub returns : goal.returns

@@ -2,10 +2,10 @@ use Rattle.std.proofs.Common.{◌≡◌, ◌∙◌, [], ◌∷◌, arith, sym, a
 use Rattle.dslx_meaning.specs.Items.{name_of_field}
 use Rattle.dslx_check_declarations.specs.Names.{AreBefore}
 use Rattle.dslx_check_declarations.proofs.Lemmas.Listed.{names_behind, names_next, take_next}
-use Rattle.dslx_check_judge.specs.Inner.Lists.{IsTypeAs}
+use Rattle.dslx_check_judge.specs.Lists.{IsTypeAs}
 use Rattle.dslx_check_judge.proofs.OnFields as list
-use Rattle.dslx_check_judge.proofs.OnLists.{listed_all, listed_next, listed_none, type_stays, typed_element}
-use Rattle.dslx_check_judge.proofs.OnTrees.{inner_walked}
+use Rattle.dslx_check_judge.proofs.Lemmas.OnLists.{listed_all, listed_next, listed_none, type_stays, typed_element}
+use Rattle.dslx_check_judge.proofs.Lemmas.OnTrees.{inner_walked}
 use Rattle.dslx_check_judge.proofs.fields.fields_seen.Goals as goal
 
 pub fields-init : goal.fields-init

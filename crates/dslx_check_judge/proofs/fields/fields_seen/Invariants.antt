@@ -4,9 +4,9 @@ use Rattle.dslx_check_facts.specs.Walks.{shown}
 use Rattle.dslx_check_declarations.specs.Names.{AreBefore}
 use Rattle.dslx_check_declarations.proofs.Lemmas.Listed.{names_behind}
 use Rattle.dslx_check_leaves.specs.Walked.{WalksTo}
-use Rattle.dslx_check_judge.specs.Inner.Lists.{IsTypeAs}
+use Rattle.dslx_check_judge.specs.Lists.{IsTypeAs}
 use Rattle.dslx_check_judge.proofs.OnFields as list
-use Rattle.dslx_check_judge.proofs.OnLists.{listed}
+use Rattle.dslx_check_judge.proofs.Lemmas.OnLists.{listed}
 use Rattle.dslx_check_judge.proofs.fields.fields_seen.Given as goal
 
 abbrev pub invariant-fields : goal.invariant-fields

@@ -1,5 +1,5 @@
 use Rattle.dslx_check_judge.proofs.OnMembers as on
-use Rattle.dslx_check_judge.proofs.OnTrees.{constant_walked}
+use Rattle.dslx_check_judge.proofs.Lemmas.OnTrees.{constant_walked}
 use Rattle.dslx_check_judge.proofs.members.constant_member.Goals as goal
 
 pub returns : goal.returns

@@ -1,8 +1,8 @@
 use Rattle.std.proofs.Common.{◌≡◌, ◌∙◌, [], ◌∷◌, arith, sym, ap, subst, take}
 use Rattle.dslx_check_declarations.specs.Names.{AreBefore}
 use Rattle.dslx_check_declarations.proofs.Lemmas.Listed.{names_behind, names_next, take_next}
-use Rattle.dslx_check_judge.specs.Inner.Lists.{IsValueAs}
-use Rattle.dslx_check_judge.proofs.OnLists.{typed_all, typed_next, typed_none, value_stays}
+use Rattle.dslx_check_judge.specs.Lists.{IsValueAs}
+use Rattle.dslx_check_judge.proofs.Lemmas.OnLists.{typed_all, typed_next, typed_none, value_stays}
 use Rattle.dslx_check_judge.proofs.OnMembers as list
 use Rattle.dslx_check_judge.proofs.members.members_seen.Goals as goal
 

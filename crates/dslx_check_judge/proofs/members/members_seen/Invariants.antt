@@ -3,8 +3,8 @@ use Rattle.dslx_check_facts.specs.Walks.{shown}
 use Rattle.dslx_check_declarations.specs.Names.{AreBefore}
 use Rattle.dslx_check_declarations.proofs.Lemmas.Listed.{names_behind}
 use Rattle.dslx_check_leaves.specs.Walked.{WalksTo}
-use Rattle.dslx_check_judge.specs.Inner.Lists.{IsValueAs, OfType}
-use Rattle.dslx_check_judge.proofs.OnLists.{listed}
+use Rattle.dslx_check_judge.specs.Lists.{IsValueAs, OfType}
+use Rattle.dslx_check_judge.proofs.Lemmas.OnLists.{listed}
 use Rattle.dslx_check_judge.proofs.OnMembers as list
 use Rattle.dslx_check_judge.proofs.members.members_seen.Given as goal
 

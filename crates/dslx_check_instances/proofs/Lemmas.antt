@@ -1,0 +1,2 @@
+-- values of parametrics that break rule 10
+pub mod OnValues
