@@ -6,12 +6,15 @@ grammar: the reader of the program is `dslx_parser`.
 """
 import re
 
+import rules
+
 NEXT = 'proc M { config() { () } init { () } next(s: ()) { %s } }'
 ENDS = ('proc M { a: chan<u8> in; b: chan<u8> out; config(a: chan<u8> in, b: chan<u8> out) { (a, b) } init { () } '
         'next(s: ()) { %s } }')
 ONE = ('proc Main { b: chan<%s> out; config(b: chan<%s> out) { (b,) } init { () } next(s: ()) { send(join(), b, %s); } }')
 TOKEN = re.compile(r'\s+|//[^\n]*|(0x[0-9a-fA-F_]+|0b[01_]+|[0-9][0-9_]*)|([A-Za-z_]\w*)|"(\w+)"|'
                    r'(\.\.\.|\.\.|::|\+:|\+\+|->|=>|==|!=|<=|>=|<<|>>|&&|\|\||[()\[\]{}<>,;:.+\-*/%&|^!=])')
+TOP = 'proc Top { config() { } init { () } next(s: ()) { () } }'
 LEVELS = [['*', '/', '%'], ['+', '-', '++'], ['<<', '>>'], ['&'], ['^'], ['|'],
           ['==', '!=', '<', '<=', '>', '>='], ['&&'], ['||']]
 BINARY = {'*': 'Mul', '/': 'Div', '%': 'Rem', '+': 'Add', '-': 'Sub', '++': 'Concat', '<<': 'Shl', '>>': 'Shr', '&': 'And',
@@ -603,3 +606,17 @@ def whole(number):
 
 def items(parts):
     return '(%s)' % ' ∷ '.join(list(parts) + ['[]']) if parts else '[]'
+
+
+def examples(path):
+    """The texts of a table, each with its name and what is wanted: of docs/rules.txt those that stand beside the rules of the language."""
+    with open(path, encoding='utf-8') as file:
+        written = file.read()
+    if path.endswith('rules.txt'):
+        for number, _, text, line in map(rules.cells, rules.tables()['language rules'][1:]):
+            text = text.strip('`')
+            yield f'rule_{number}', re.sub(r' at |\.\.', ' ', line.strip('`')), text if 'proc' in text else f'{text} {TOP}'
+    else:
+        for part in re.split(r'\n\s*\n', written.strip()):
+            name, wanted, *lines = part.split('\n')
+            yield name.strip(), wanted.strip(), expand('\n'.join(lines))

@@ -32,6 +32,13 @@ def row_of(name, key):
     return next((found for found in map(cells, tables()[name][1:]) if found[0].strip('`') == key), None)
 
 
+def cell_in(names, key, head):
+    """What stands below this head in the row of this number or word, in the first of these tables that has the row; None where nothing does."""
+    name = next((it for it in names if row_of(it, key)), None)
+    heads = cells(tables()[name][0]) if name else []
+    return row_of(name, key)[heads.index(head)] if head in heads else None
+
+
 def markdown(name):
     """A table as the pages show it."""
     head, *rows = tables()[name]

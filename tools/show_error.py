@@ -86,8 +86,9 @@ def syntax(found, words, text):
 
 
 def broken(found, words, text):
-    row = row_in([f'{it} rules' for it in ('narrowed', 'language', 'ir', 'verilog')], found['key'])
-    return Refusal(f'rule {found["key"]}', row[1], (int(found['at']), int(found['end'])), ' '.join(row[2:]))
+    names = [f'{it} rules' for it in ('narrowed', 'language', 'ir', 'verilog')]
+    part = rules.cell_in(names, found['key'], 'named at')
+    return Refusal(f'rule {found["key"]}', row_in(names, found['key'])[1], (int(found['at']), int(found['end'])), part or '')
 
 
 def over(found, words, text):

@@ -7,7 +7,7 @@ It reads the definitions of `dslx_meaning`, `dslx_parser` (depths) and `dslx_cor
 texts of each TABLE, and compares what they come to with what the table wants. It is a help while definitions are written;
 nothing rests on it. A NAME is an example that is tried alone.
 
-A table has paragraphs. Each is a line with a name, a line with what is wanted, and the lines of a text (`dslx_terms.py`):
+A table is docs/rules.txt, whose examples of the language's rules are tried, or has paragraphs. Each is a line with a name, a line with what is wanted, and the lines of a text (`dslx_terms.py`):
 `ok`, `rule R FROM TO` or `limit WORD FOUND MOST`: what the text is refused for; `value SIGNED WIDTH NUMBER`: the constant X;
 `sent TURN`: what the first proc does at its first site; `turns WORDS | TURNS ; STATE`: its activation over words of 8 bits;
 `height N`: how high the text's tree is; `core NAME ARGUMENT .. ; .. | EXPRESSION`: what the last of these instances of functions becomes;
@@ -945,12 +945,9 @@ def main():
     bad = count = 0
     only = [a[2:] for a in sys.argv[1:] if a.startswith('--')]
     for path in [a for a in sys.argv[1:] if not a.startswith('--')]:
-        for part in re.split(r'\n\s*\n', open(path, encoding='utf-8').read().strip()):
-            lines = part.split('\n')
-            name, wanted = lines[0].strip(), lines[1].strip()
+        for name, wanted, text in dslx_terms.examples(path):
             if only and name not in only:
                 continue
-            text = dslx_terms.expand('\n'.join(lines[2:]))
             m = tree_module()
             try:
                 term = dslx_terms.Reader(text).module()
