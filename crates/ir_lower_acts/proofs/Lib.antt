@@ -4,5 +4,7 @@ pub mod OnTurns
 pub mod OnWalks
 -- alike activities, as activations
 pub mod OnSame
+-- nodes, steps and sites one after another
+pub mod OnParts
 -- for other crates' proofs
 pub mod Lemmas

@@ -1,5 +1,5 @@
 -- Two activities that are alike do the same at each site to which an activation can come.
-use Rattle.std.proofs.Common.{◌≡◌, ℕ, zero, suc, ◌+◌, ◌<◌, ◌≤◌, List, [], ◌∷◌, ◌++◌, length, drop, take, Option, Some, None, refl, sym, ap, subst, ◌∙◌, arith, length-append}
+use Rattle.std.proofs.Common.{◌≡◌, ℕ, zero, suc, ◌+◌, ◌<◌, ◌≤◌, List, [], ◌∷◌, ◌++◌, length, drop, take, None, refl, sym, ap, subst, ◌∙◌, arith, length-append}
 use Rattle.std.specs.Prelude.{slice_get}
 use Rattle.std.proofs.lemmas.List.{append-nil, append_assoc}
 use Rattle.base.proofs.Lemmas.Lists.Indices.{slice_get-append_right}
@@ -10,7 +10,7 @@ use Rattle.net_core.specs.Behavior.{Behavior, Turn, Skip, Receive, Give, IsWordO
 use Rattle.ir_tree.specs.Activations.{first_word}
 use Rattle.dslx_core.specs.Designs.{CoreActivity, turn_before}
 use Rattle.dslx_meaning.specs.Activation.{turn_at}
-use Rattle.ir_lower_acts.specs.Activities.{ByWords, ended, DoAlike, Ends, Skips, Gives, Receives}
+use Rattle.ir_lower_acts.specs.Activities.{ByWords, DoAlike, Ends, Skips, Gives, Receives}
 
 -- ---- what a site takes
 

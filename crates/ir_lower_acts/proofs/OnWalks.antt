@@ -1,5 +1,5 @@
 -- What nodes do one after another, over words in their order, is what an activation of a proc of them does.
-use Rattle.std.proofs.Common.{◌≡◌, ℕ, zero, suc, ◌+◌, List, [], ◌∷◌, ◌++◌, drop, get_or, Bool, true, false, if◌then◌else◌, Option, Some, None, refl, sym, ap, subst, ◌∙◌, arith}
+use Rattle.std.proofs.Common.{◌≡◌, ℕ, zero, suc, ◌+◌, List, [], ◌∷◌, ◌++◌, drop, get_or, Bool, true, false, if◌then◌else◌, Option, Some, refl, sym, ap, subst, ◌∙◌, arith}
 use Rattle.std.specs.Prelude.{slice_get}
 use Rattle.xb_bits.specs.Word.{Word}
 use Rattle.xb_value.specs.declared.value.Value.{Value}
@@ -14,7 +14,7 @@ use Rattle.ir_tree.specs.NodeValues.{role_of, Setting, is_on, operand_value, rec
 use Rattle.ir_tree.specs.Activations.{first_word, sent_by, turns_by, turns_from, words_from}
 use Rattle.dslx_core.specs.Designs.{CoreActivity, turn_before}
 use Rattle.dslx_meaning.specs.Activation.{turn_at}
-use Rattle.ir_lower_acts.specs.Activities.{ByWords, heard_then, role_then, nodes_then}
+use Rattle.ir_lower_acts.specs.Activities.{heard_then, role_then, nodes_then}
 use Rattle.ir_lower_acts.specs.InstanceActivities.{ended_by}
 
 abbrev by_places : List Channel → Value → (ℕ → Word) → Setting

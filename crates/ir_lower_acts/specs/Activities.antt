@@ -3,7 +3,7 @@ use Rattle.std.specs.Prelude.{◌≡◌, ℕ, List, [], ◌∷◌, ◌++◌, dro
 use Rattle.xb_bits.specs.Word.{Word}
 use Rattle.xb_value.specs.declared.value.Value.{Value}
 use Rattle.net_core.specs.declared.net.Site.{Site}
-use Rattle.net_core.specs.Behavior.{Turn, Skip, Receive, Give, IsWordOf}
+use Rattle.net_core.specs.Behavior.{Skip, Receive, Give, IsWordOf}
 use Rattle.ir_tree.specs.declared.node.Node.{Node}
 use Rattle.ir_tree.specs.declared.node.Role.{Role}
 use Rattle.ir_tree.specs.declared.node.Role.TheVariants as role

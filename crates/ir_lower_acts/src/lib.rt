@@ -6,4 +6,4 @@
 
 mod laws;
 
-pub use laws::alike_activities_are_same_activations;
+pub use laws::{activities_go_on, alike_activities_are_same_activations};
