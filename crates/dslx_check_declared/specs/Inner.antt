@@ -1,0 +1,2 @@
+-- parts of declarations
+pub mod Foreign
