@@ -1,0 +1,2 @@
+-- where the checking of a text stands
+pub mod Standing
