@@ -43,6 +43,12 @@ use Rattle.dslx_check_facts.specs.declared.walk.Need.{Need}
 use Rattle.dslx_check_facts.proofs.Lemmas.Walks.{misses_grows, misses_trans, nothing_missing}
 use Rattle.dslx_check_constants.specs.Constants.{ConstantFrom, IsKeptValue, IsKeptValueIf, args_in_scope, expr_typed, if_valued, is_local_name, some_local, unhidden_by, unless_hidden}
 
+-- ---- what is missing
+
+-- where nothing is missing in the end, as much was missing before
+pub as_many_missing : (old new : WalkShown) → OnlyMisses old new → new.missing ≡ [] → length new.missing ≡ length old.missing
+as_many_missing old new m e = ap length (e ∙ sym (nothing_missing old new (misses_grows old new m) e))
+
 -- ---- names that are bound around it
 
 any_either : {A : Type 0} (p q : A → Bool) (xs : List A) → list_any (λ x. p x || q x) xs ≡ (list_any p xs || list_any q xs)

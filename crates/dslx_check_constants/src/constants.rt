@@ -220,8 +220,9 @@ fn value_of<'a>(
     ensures misses { OnOk result (OnlyMisses (shown w.old) (shown w.new)) }
     ensures value { IfOk result (λ v. (shown w.new).missing ≡ [] → IsKeptValue f.now s.now e.now v) }
 {
+    let missing = w.missing.len();
     ask_settled(f, w, e)?;
-    if w.missing.len() == 0 {
+    if w.missing.len() == missing {
         value_kept(f, s, e)
     } else {
         Ok(None)
