@@ -1,0 +1,2 @@
+-- an instance
+pub mod OnNext
