@@ -1,0 +1,2 @@
+-- for other crates' proofs
+pub mod Lemmas
