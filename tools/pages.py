@@ -72,7 +72,7 @@ def table():
         if name not in tests and name not in narrow:
             direct = [it for it in below if not any(it in closed[other] for other in below)]
             rows.append(f'| `{name}` | {what_it_is(name)} | {" ".join(direct)} |')
-    return '\n'.join([*rows, '', f'Tests alone: {", ".join(f"`{name}`" for name in tests)}. The narrowed language: `dslx_narrow` and {len(narrow) - 1} named `dslx_narrow_*`.'])
+    return '\n'.join([*rows, '', f'Tests alone: {", ".join(f"`{name}`" for name in tests)}. The narrowed language: {" ".join(narrow)}.'])
 
 
 def slugs(page):
