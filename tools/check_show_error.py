@@ -42,8 +42,8 @@ if [ -e "$PLAYED.err" ]; then cat "$PLAYED.err" >&2; fi
 exit "$(cat "$PLAYED.status")"
 """
 DESIGN = b'proc join {}\n'
-HEAD = f'error[rule 2]: {rules.row_of("narrowed rules", "2")[1]}\n'.encode()
-PLACE = b':1:6\n  |\n1 | proc join {}\n  |      ^^^^ the later name\n'
+HEAD = f'error[rule 2]: {rules.row_of("language rules", "2")[1]}\n'.encode()
+PLACE = b':1:6\n  |\n1 | proc join {}\n  |      ^^^^\n'
 
 
 def check(holds, *told):
@@ -165,7 +165,8 @@ def names_and_files(room):
         check(play.shows(['check', 'short.x'], line, status) == b'', line, status)
     put(f'{room}/.x', b'no proc')
     got = play.shows(['run', 'a\n.x', '.x', '--activations', '1'], b'a\n.x: rule 2 at 5..9\n')
-    check(got == HEAD + ' --> a␊.x'.encode() + PLACE, 'two names that end alike', got)
+    row = rules.row_of('narrowed rules', '2')
+    check(got == f'error[rule 2]: {row[1]}\n --> a␊.x'.encode() + PLACE[:-1] + f' {row[2]}\n'.encode(), 'two names that end alike', got)
     got = play.shows(['check', 'a: rule 1 at 0..5'], b'xls: this run is not proved\na: rule 1 at 0..5: rule 2 at 5..9\n')
     check(got == HEAD + b' --> a: rule 1 at 0..5' + PLACE, 'behind another line', got)
 

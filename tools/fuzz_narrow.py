@@ -4,7 +4,7 @@
     tools/fuzz_narrow.py PROGRAM FROM TO
 
 For each seed from FROM up to TO there is one design with its channel file, every second of which has changed lines. Its outcome is
-compared with that of the interpreter here. Then some of its tokens are changed, and what `check` says of the text, with the exact
+compared with that of the interpreter here. Then some of its tokens are changed, and what `run` refuses the text for, with the exact
 place of its fault, is compared with what the second reader says (tools/narrow_reader.py). Prints the first few that differ, and
 ends with 1.
 """
@@ -270,15 +270,16 @@ def changed(text, rng):
     return rng.choice([" ", " ", "\n", " // +\n"]).join(tokens)
 
 
-def check_differs(program, folder, seed):
+def refusal_differs(program, folder, seed):
     """Whether the program says something else of the changed text of this seed than the second reader."""
     rng = random.Random(seed)
     text = "".join(Design(rng, f"P{number}").text for number in range(rng.choice([1, 1, 2])))
     text = changed(text, rng)
     status, line = answer(text)
-    wanted = (0, line + "\n", "") if status == 0 else (status, "", f"d.x: {line}\n")
-    files = {"d.x": text.encode()}
-    return differs(seed, files, wanted, called(program, folder, files, ["check", "d.x"]))
+    wanted = (status, f"d.x: {line}\n" if status else "")
+    files = {"d.x": text.encode(), "none.txt": b""}
+    got = called(program, folder, files, ["run", "d.x", "none.txt", "--activations", "1"])
+    return differs(seed, files, wanted, (got[0], got[2]))
 
 
 def main():
@@ -286,7 +287,7 @@ def main():
     differing = 0
     with tempfile.TemporaryDirectory() as folder:
         for seed in range(first, end):
-            differing += run_differs(program, folder, seed) + check_differs(program, folder, seed)
+            differing += run_differs(program, folder, seed) + refusal_differs(program, folder, seed)
             if differing >= 3:
                 break
     print(f"{end - first} designs and as many changed ones, {differing} differ")

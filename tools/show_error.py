@@ -71,7 +71,9 @@ def language(words):
     options = words[:words.index('--')] if '--' in words else words
     if words[:1] == ['sim']:
         return 'verilog'
-    return 'ir' if '--from=ir' in options or ('--from', 'ir') in zip(options, options[1:]) else 'narrowed'
+    if '--from=ir' in options or ('--from', 'ir') in zip(options, options[1:]):
+        return 'ir'
+    return 'language' if words[:1] == ['check'] else 'narrowed'
 
 
 def row_in(tables, key):
@@ -86,7 +88,7 @@ def syntax(found, words, text):
 
 
 def broken(found, words, text):
-    names = [f'{it} rules' for it in ('narrowed', 'language', 'ir', 'verilog')]
+    names = [f'{it} rules' for it in (language(words), 'narrowed', 'language', 'ir', 'verilog')]
     part = rules.cell_in(names, found['key'], 'named at')
     return Refusal(f'rule {found["key"]}', row_in(names, found['key'])[1], (int(found['at']), int(found['end'])), part or '')
 

@@ -32,13 +32,17 @@ activations = record (new_rule (codes "activations")) {
   parser = Some (vp.Signed (pos 1) (pos 1048576));
 }
 
--- `check FILE`
-abbrev pub check : App
-check = with_rule (new_app (codes "check")) (file (codes "design"))
-
 -- an option that need not stand, with a value behind it
 abbrev pub option : Text → Rule
 option name = record (new_rule name) { long = Some name }
+
+-- `--top NAME`
+abbrev pub top : Rule
+top = option (codes "top")
+
+-- `check FILE [--top NAME]`
+abbrev pub check : App
+check = with_rule (with_rule (new_app (codes "check")) (file (codes "design"))) top
 
 -- `--workers W`
 abbrev pub workers : Rule
@@ -110,7 +114,7 @@ abbrev pub number_in : ℕ → ℕ → Text → Option ℕ
 number_in least most text = if is_unsigned_in least most text then Some (digits_value 10 (without_leading_plus text)) else None
 
 abbrev pub check_arguments : List Row → Option (Check Text)
-check_arguments rows = option_map (λ design. record { design = design }) (first_of (codes "design") rows)
+check_arguments rows = option_map (λ design. record { design = design; top = first_of (codes "top") rows }) (first_of (codes "design") rows)
 
 -- the number of workers: 1 where no word says it
 abbrev pub workers_in : Option Text → Option ℕ

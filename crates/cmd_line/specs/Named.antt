@@ -1,6 +1,7 @@
 -- The arguments of a request, without where the names of files lie in memory.
 use Rattle.std.specs.Prelude.{ℕ, List}
 use Rattle.std.specs.Borrow.{Bor}
+use Rattle.std.specs.Option.{option_copied}
 use Rattle.cmd_line.specs.declared.request.Request.{Request}
 use Rattle.cmd_line.specs.declared.request.Request.TheVariants as request
 use Rattle.cmd_line.specs.declared.request.Check.{Check}
@@ -11,7 +12,7 @@ use Rattle.cmd_line.specs.declared.request.Opt.{Opt}
 use Rattle.cmd_line.specs.declared.request.Verilog.{Verilog}
 
 abbrev pub named_check : Check (Bor (List ℕ)) → Check (List ℕ)
-named_check said = record { design = said.design.now }
+named_check said = record { design = said.design.now; top = option_copied said.top }
 
 abbrev pub named_run : Run (Bor (List ℕ)) → Run (List ℕ)
 named_run said = record { design = said.design.now; inputs = said.inputs.now; how = said.how }

@@ -1,7 +1,7 @@
 ghost use Rattle.std.specs.Prelude.{◌≡◌, IfOk, false, codes};
 ghost use Rattle.clap.specs.Words.{App, Rule, app_of, new_app, rule_of, with_rule, with_subcommand as with_app};
 ghost use Rattle.clap.specs.declared.builder.Command.TheViews.{out-Command as fields_of};
-ghost use Rattle.cmd_line.specs.CommandLine.{activations, check, clock, depth, file, from, interval, opt, option, plain_run, run, schedule, scheduling, sim, stages, verilog, workers, xls};
+ghost use Rattle.cmd_line.specs.CommandLine.{activations, check, clock, depth, file, from, interval, opt, option, plain_run, run, schedule, scheduling, sim, stages, top, verilog, workers, xls};
 
 use clap::{Arg, Command, value_parser};
 use std::alloc::{AllocError, Global};
@@ -61,7 +61,8 @@ fn check<'a>(alloc: Global) -> Result<Command<'a>, AllocError>
     ensures app { IfOk result (λ command. app_of command ≡ check) }
     ensures local { IfOk result (λ command. (fields_of command).has_globals ≡ false) }
 {
-    of_design(alloc, "check")
+    let built = of_design(alloc, "check");
+    with_arg(built, top(alloc))
 }
 
 fn run<'a>(alloc: Global) -> Result<Command<'a>, AllocError>
@@ -166,6 +167,14 @@ fn depth<'a>(alloc: Global) -> Arg<'a>
     ensures local { result.global ≡ false }
 {
     option(alloc, "depth").value_parser(value_parser!(u32).range(1..=4_096))
+}
+
+/// `--top NAME`
+fn top<'a>(alloc: Global) -> Arg<'a>
+    ensures rule { rule_of result ≡ top }
+    ensures local { result.global ≡ false }
+{
+    option(alloc, "top")
 }
 
 /// `--from F`

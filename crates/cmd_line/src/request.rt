@@ -9,10 +9,12 @@ pub enum Request<N> {
     Verilog(Verilog<N>),
 }
 
-/// `check FILE`
+/// `check FILE [--top NAME]`
 #[derive(Clone, Copy)]
 pub struct Check<N> {
     pub design: N,
+    /// The name of the top proc, which is the last one by default.
+    pub top: Option<N>,
 }
 
 /// `run FILE INPUTS --activations N [--workers W] [--depth D] [--from F]`

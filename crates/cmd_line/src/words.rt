@@ -47,7 +47,10 @@ fn check<'a>(matches: &ArgMatches<'a>) -> Option<Check<&'a str>>
     ensures { option_map named_check result ≡ check_arguments (rows_of (found_of matches.now)) }
 {
     match text(matches, "design") {
-        Some(design) => Some(Check { design }),
+        Some(design) => Some(Check {
+            design,
+            top: text(matches, "top"),
+        }),
         None => None,
     }
 }

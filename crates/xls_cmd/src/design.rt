@@ -10,7 +10,7 @@ mod run;
 mod running;
 mod source;
 
-pub use check::{accepted, check_design};
+pub use check::check_design;
 pub use run::{run_design, run_design_alone};
 pub use running::{depths, run_text, run_text_alone};
-pub use source::{inputs_of, read_design};
+pub use source::{check_module, inputs_of, read_design};

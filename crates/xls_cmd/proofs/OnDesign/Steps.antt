@@ -30,8 +30,12 @@ use Rattle.dslx_narrow_tree.specs.Network.{network_of, behaviors_of}
 use Rattle.dslx_narrow_tree.specs.declared.proc.Module.{Module}
 use Rattle.dslx_narrow.specs.Designs.{GivesDesign, IsDesign, IsRefusal}
 use Rattle.dslx_narrow.specs.declared.design.Design.{Design}
-use Rattle.xls_cmd.specs.Design.Commands.{ReadsDesign, ReadsInputs, says, at_fault, check, check_text, run, run_texts, top}
-use Rattle.xls_cmd.specs.Design.Inner.{IsRead}
+use Rattle.dslx_tree.specs.declared.item.Module as whole_tree
+use Rattle.dslx_meaning.specs.Network as whole
+use Rattle.dslx_count.specs.declared.size.NetworkSize.{NetworkSize}
+use Rattle.dslx.specs.Texts.{GivesTree, HasNetworkSize, RefusesText}
+use Rattle.xls_cmd.specs.Design.Commands.{ReadsDesign, ReadsInputs, ReadsModule, says, at_fault, check, check_text, run, run_texts, top}
+use Rattle.xls_cmd.specs.Design.Inner.{IsRead, IsSizeRead}
 use Rattle.xls_cmd.specs.Design.Written.{accepted, depth_by, depths_by, run_text}
 
 -- ---- reading a design
@@ -57,6 +61,22 @@ pub stops_at_design : (name : Bor (List ℕ)) (bytes text : List ℕ) (e : ReadE
 stops_at_design name bytes text e found is =
     stops_in_next (Gives (text_of name.now bytes)) (λ t. OfText name.now (GivesDesign t top)) text (text_refusal name e) found
     (stops_at_text name (GivesDesign text top) e (refuses text e is))
+
+-- ---- the size of a design's network
+
+pub size_is_read : (name : List ℕ) (t : Option (List ℕ)) (bytes text : List ℕ) (size : NetworkSize) → Ok text ≡ text_of name bytes → HasNetworkSize text t size → IsSizeRead name t bytes size
+size_is_read name t bytes text size found is = record { tree = is.tree; reads = goes_on text (Ok is.tree) found (accepts is.tree is.given); is = is.is }
+
+refuses_module : (text : List ℕ) (t : Option (List ℕ)) (e : ReadError) → RefusesText text t e → RefusesFor (GivesTree text t) e
+refuses_module text t (Syntax at) is = is
+refuses_module text t (Broken rule span) is = is
+refuses_module text t (Over limit) is = is
+refuses_module text t OutOfMemory is = tt
+
+pub stops_at_module : (name : Bor (List ℕ)) (t : Option (List ℕ)) (bytes text : List ℕ) (e : ReadError) → Ok text ≡ text_of name.now bytes → RefusesText text t e → StopsBy (ReadsModule name.now t bytes) (text_refusal name e)
+stops_at_module name t bytes text e found is =
+    stops_in_next (Gives (text_of name.now bytes)) (λ x. OfText name.now (GivesTree x t)) text (text_refusal name e) found
+    (stops_at_text name (GivesTree text t) e (refuses_module text t e is))
 
 -- ---- a run
 
@@ -95,10 +115,17 @@ inputs_is_one name file net a b (at_fault cause at is) (at_fault other place als
     let same : ◌≡◌ {A = Cause × ℕ} (cause, at) (other, place) = let e = one_reading net file (Err (cause, at)) (Err (other, place)) is also in cc in
     ap (λ (x : Cause × ℕ). Err (Input name x.0 x.1)) same
 
-pub check_is_one : OneDesign → (holds : Contents) (arguments : Check (List ℕ)) → IsOne (check holds arguments)
+abbrev pub OneModule : Type 0
+OneModule = (text : List ℕ) (t : Option (List ℕ)) (a b : Result whole_tree.Module ReadError) → GivesTree text t a → GivesTree text t b → a ≡ b
+
+module_is_one : OneModule → (name : List ℕ) (t : Option (List ℕ)) (bytes : List ℕ) → IsOne (ReadsModule name t bytes)
+module_is_one law name t bytes =
+    then_is_one (Gives (text_of name bytes)) (λ text. OfText name (GivesTree text t)) (gives_is_one (text_of name bytes)) (λ text. of_text_is_one name (GivesTree text t) (law text t))
+
+pub check_is_one : OneModule → (holds : Contents) (arguments : Check (List ℕ)) → IsOne (check holds arguments)
 check_is_one law holds arguments =
-    then_is_one (Loads holds arguments.design) (λ design. check_text arguments.design design) (loads_is_one holds arguments.design)
-    (λ design. then_is_one (ReadsDesign arguments.design design) (λ m. Gives (Ok (accepted (network_of m top)))) (design_is_one law arguments.design design) (λ m. gives_is_one (Ok (accepted (network_of m top)))))
+    then_is_one (Loads holds arguments.design) (λ design. check_text arguments design) (loads_is_one holds arguments.design)
+    (λ design. then_is_one (ReadsModule arguments.design arguments.top design) (λ m. Gives (Ok (accepted (whole.network_of m arguments.top)))) (module_is_one law arguments.design arguments.top design) (λ m. gives_is_one (Ok (accepted (whole.network_of m arguments.top)))))
 
 texts_are_one : OneDesign → (arguments : Run (List ℕ)) (design inputs : List ℕ) → IsOne (run_texts arguments design inputs)
 texts_are_one law arguments design inputs =

@@ -14,15 +14,22 @@ use Rattle.net_core.specs.declared.net.Inputs.{Inputs}
 use Rattle.dslx_narrow_tree.specs.Network.{network_of, behaviors_of}
 use Rattle.dslx_narrow_tree.specs.declared.proc.Module.{Module}
 use Rattle.dslx_narrow.specs.Designs.{GivesDesign}
+use Rattle.dslx_tree.specs.declared.item.Module as whole_tree
+use Rattle.dslx_meaning.specs.Network as whole
+use Rattle.dslx.specs.Texts.{GivesTree}
 use Rattle.xls_cmd.specs.Design.Written.{accepted, depths_by, run_text}
 
 -- ---- the steps
 
--- the top of a design: its last proc
+-- the tree of a design in DSLX, which is UTF-8, is read and isn't refused; its top is the proc of this name, or the last one
+abbrev pub ReadsModule : List ℕ → Option (List ℕ) → List ℕ → Step whole_tree.Module
+ReadsModule name top bytes = Then (Gives (text_of name bytes)) (λ text. OfText name (GivesTree text top))
+
+-- the top of a design in the narrowed language: its last proc
 abbrev pub top : Option (List ℕ)
 top = None
 
--- the tree of a design, which is UTF-8, is read and has no fault
+-- the tree of a design in the narrowed language, which is UTF-8, is read and has no fault
 abbrev pub ReadsDesign : List ℕ → List ℕ → Step Module
 ReadsDesign name bytes = Then (Gives (text_of name bytes)) (λ text. OfText name (GivesDesign text top))
 
@@ -34,11 +41,11 @@ pub data ReadsInputs (name file : List ℕ) (net : Net) : Result Inputs Fault �
 -- ---- the commands
 
 -- `check`, once the file is loaded
-abbrev pub check_text : List ℕ → List ℕ → Step (List ℕ)
-check_text name design = Then (ReadsDesign name design) (λ m. Gives (Ok (accepted (network_of m top))))
+abbrev pub check_text : Check (List ℕ) → List ℕ → Step (List ℕ)
+check_text arguments design = Then (ReadsModule arguments.design arguments.top design) (λ m. Gives (Ok (accepted (whole.network_of m arguments.top))))
 
 abbrev pub check : Contents → Check (List ℕ) → Step (List ℕ)
-check holds arguments = Then (Loads holds arguments.design) (λ design. check_text arguments.design design)
+check holds arguments = Then (Loads holds arguments.design) (λ design. check_text arguments design)
 
 -- `run`, once both files are loaded
 abbrev pub run_texts : Run (List ℕ) → List ℕ → List ℕ → Step (List ℕ)

@@ -12,8 +12,11 @@ use Rattle.net_core.specs.declared.net.Inputs.{Inputs}
 use Rattle.chan_file.specs.OutcomeText.{outcome_text}
 
 -- the size of a network that was accepted
+abbrev pub accepted_size : ℕ → ℕ → List ℕ
+accepted_size procs channels = codes "ok procs " ++ decimal procs ++ codes " channels " ++ decimal channels ++ codes "\n"
+
 abbrev pub accepted : Net → List ℕ
-accepted net = codes "ok procs " ++ decimal (length net.procs) ++ codes " channels " ++ decimal (length net.chans) ++ codes "\n"
+accepted net = accepted_size (length net.procs) (length net.chans)
 
 -- the depth of a channel, 1 at least: where the arguments have one, that is the depth of inner channels
 abbrev pub depth_by : Option ℕ → Kind → ℕ → ℕ

@@ -4,16 +4,16 @@ ghost use Rattle.xls_cmd.specs.Shared.Events.{file_events};
 ghost use Rattle.xls_cmd.specs.Shared.Step.{ExpectedBy};
 ghost use Rattle.cmd_line.specs.Named.{named_check};
 ghost use Rattle.xls_cmd.specs.Design.Commands.{check, check_files, check_text};
-ghost use Rattle.xls_cmd.specs.Design.Written.{accepted};
+ghost use Rattle.xls_cmd.specs.Design.Written.{accepted_size};
 
-use crate::design::source::read_design;
+use crate::design::source::check_module;
 use crate::shared::{Refusal, load};
 use cmd_line::Check;
-use net_core::Net;
+use dslx::NetworkSize;
 use std::alloc::{AllocError, Global};
 use xb_io::Files;
 
-/// `check FILE`
+/// `check FILE [--top NAME]`
 pub fn check_design<'a, F: Files>(
     alloc: Global,
     files: &mut F,
@@ -24,26 +24,30 @@ pub fn check_design<'a, F: Files>(
         (file_events F.asked F.faults F.taken files.old files.new) result }
 {
     let design = load(alloc, files, arguments.design)?;
-    check_loaded(alloc, arguments.design, &design)
+    check_loaded(alloc, &arguments, &design)
 }
 
 /// What `check` gives once the file is loaded.
-fn check_loaded<'a>(alloc: Global, name: &'a str, bytes: &[u8]) -> Result<Vec<u8>, Refusal<'a>>
+fn check_loaded<'a>(
+    alloc: Global,
+    arguments: &Check<&'a str>,
+    bytes: &[u8],
+) -> Result<Vec<u8>, Refusal<'a>>
     requires { length bytes.now < 2 ^ 32 }
-    ensures gives { IfOk result (λ text. check_text name.entry.now bytes.now (Ok text.items)) }
-    ensures refused { IfErr result (StopsBy (check_text name.entry.now bytes.now)) }
+    ensures gives { IfOk result (λ text. check_text (named_check arguments.now) bytes.now (Ok text.items)) }
+    ensures refused { IfErr result (StopsBy (check_text (named_check arguments.now) bytes.now)) }
 {
-    let design = read_design(alloc, name, bytes)?;
-    let text = accepted(alloc, &design.net)?;
+    let size = check_module(alloc, arguments.design, arguments.top, bytes)?;
+    let text = accepted(alloc, size)?;
     Ok(text)
 }
 
 /// What is written of a network that was accepted.
-pub fn accepted(alloc: Global, net: &Net) -> Result<Vec<u8>, AllocError>
-    ensures { IfOk result (λ text. text.items ≡ accepted net.now) }
+fn accepted(alloc: Global, size: NetworkSize) -> Result<Vec<u8>, AllocError>
+    ensures { IfOk result (λ text. text.items ≡ accepted_size size.procs size.channels) }
 {
-    let procs = net.procs.len();
-    let channels = net.chans.len();
+    let procs = size.procs;
+    let channels = size.channels;
     let text = format!(in alloc; "ok procs {procs} channels {channels}\n")?;
     Ok(text.into_bytes())
 }

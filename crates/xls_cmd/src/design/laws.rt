@@ -15,4 +15,5 @@ pub fn one_answer()
     ensures inputs { (name file : List ℕ) (net : Net) → IsOne (ReadsInputs name file net) }
 {
     dslx_narrow::one_design();
+    dslx::one_module();
 }

@@ -13,12 +13,12 @@ returns-in_err-design g c =
     (λ given. IsDone (λ text. text.items) (ExpectedBy (g.F.Files.told c.args.files.now) (λ holds. check holds (named_check c.args.arguments))) (check_files (named_check c.args.arguments))
     (file_events g.F.Files.asked g.F.Files.faults g.F.Files.taken c.args.files.now c.load.new.files) given)
     c.from_residual.ensures.1
-    (done_at_load g.F.Files.asked g.F.Files.faults g.F.Files.taken (λ text. text.items) (g.F.Files.told c.args.files.now) c.args.arguments.design.now (λ holds design. check_text c.args.arguments.design.now design) []
+    (done_at_load g.F.Files.asked g.F.Files.faults g.F.Files.taken (λ text. text.items) (g.F.Files.told c.args.files.now) c.args.arguments.design.now (λ holds design. check_text (named_check c.args.arguments) design) []
     c.args.files.now c.load.new.files c.in_err-design.field-0.0 c.load.ensures.asks c.in_err-design.ensures.refused)
 
 pub returns : goal.returns
 returns g c =
-    done_after_load g.F.Files.asked g.F.Files.faults g.F.Files.taken (λ text. text.items) (g.F.Files.told c.args.files.now) c.args.arguments.design.now c.in_ok-design.design.items (λ holds design. check_text c.args.arguments.design.now design) []
+    done_after_load g.F.Files.asked g.F.Files.faults g.F.Files.taken (λ text. text.items) (g.F.Files.told c.args.files.now) c.args.arguments.design.now c.in_ok-design.design.items (λ holds design. check_text (named_check c.args.arguments) design) []
     c.args.files.now c.load.new.files c.load.new.files c.check_loaded.result c.load.ensures.asks c.in_ok-design.ensures.sound c.load.ensures.taken_never_falls c.in_ok-design.ensures.loaded
-    (done_behind_loads g.F.Files.asked g.F.Files.faults g.F.Files.taken (λ text. text.items) (g.F.Files.told c.args.files.now) (check_text c.args.arguments.design.now c.in_ok-design.design.items) [] c.load.new.files
+    (done_behind_loads g.F.Files.asked g.F.Files.faults g.F.Files.taken (λ text. text.items) (g.F.Files.told c.args.files.now) (check_text (named_check c.args.arguments) c.in_ok-design.design.items) [] c.load.new.files
     c.check_loaded.result (rw c.deref.ensures.value at c.check_loaded.ensures.gives) (rw c.deref.ensures.value at c.check_loaded.ensures.refused))

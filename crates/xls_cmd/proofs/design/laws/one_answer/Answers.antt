@@ -2,7 +2,7 @@ use Rattle.xls_cmd.proofs.OnDesign.Steps.{check_is_one, inputs_is_one, run_is_on
 use Rattle.xls_cmd.proofs.design.laws.one_answer.Goals as goal
 
 pub returns-clause-check : goal.returns-clause-check
-returns-clause-check c = check_is_one c.one_design.ensures
+returns-clause-check c = check_is_one c.one_module.ensures
 
 pub returns-clause-run : goal.returns-clause-run
 returns-clause-run c = run_is_one c.one_design.ensures
