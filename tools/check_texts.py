@@ -3,13 +3,12 @@
 
     tools/check_texts.py PROGRAM FILE ..
 
-A FILE is a table as `spec_run.py` reads it (its texts that are `ok` or refused for a `rule` or a `limit` are tried), or a list of cases, one a
+A FILE is a table as `spec_run.py` reads it, docs/rules.txt among them (its texts that are `ok` or refused for a `rule` or a `limit` are tried), or a list of cases, one a
 line in JSON (those whose words begin with `check`). Prints each text that is answered otherwise, and ends with 1 if there is one.
 """
 
 import json
 import os
-import re
 import subprocess
 import sys
 import tempfile
@@ -31,13 +30,10 @@ def wanted_line(wanted):
 
 def texts_of_table(path):
     """The texts of a table, each with its name, words, files, status, and error line."""
-    with open(path, encoding='utf-8') as file:
-        for part in re.split(r'\n\s*\n', file.read().strip()):
-            lines = part.split('\n')
-            wanted = wanted_line(lines[1].strip())
-            if wanted:
-                text = dslx_terms.expand('\n'.join(lines[2:]))
-                yield lines[0].strip(), ['check', 'f.x'], {'f.x': text}, wanted[0], None, wanted[1]
+    for name, wanted, text in dslx_terms.examples(path):
+        due = wanted_line(wanted)
+        if due:
+            yield name, ['check', 'f.x'], {'f.x': text}, due[0], None, due[1]
 
 
 def cases_of_list(path):
