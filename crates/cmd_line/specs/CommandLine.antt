@@ -60,9 +60,9 @@ from = option (codes "from")
 abbrev pub plain_run : App
 plain_run = with_rule (with_rule (with_rule (new_app (codes "run")) (file (codes "design"))) (file (codes "inputs"))) activations
 
--- `run FILE INPUTS --activations N [--workers W] [--depth D] [--from F]`
+-- `run FILE INPUTS --activations N [--workers W] [--depth D] [--from F] [--top NAME]`
 abbrev pub run : App
-run = with_rule (with_rule (with_rule plain_run workers) depth) from
+run = with_rule (with_rule (with_rule (with_rule plain_run workers) depth) from) top
 
 -- `sim FILE ROWS`
 abbrev pub sim : App
@@ -140,10 +140,16 @@ how_arguments rows =
     (source_in (first_of (codes "from") rows))) (depth_in (first_of (codes "depth") rows))) (workers_in (first_of (codes "workers") rows)))
     (option_and_then (number_in 1 1048576) (first_of (codes "activations") rows))
 
+-- the name of the top, which no word says of an IR text
+abbrev pub top_in : Source → Option Text → Option (Option Text)
+top_in Dslx name = Some name
+top_in Ir None = Some None
+top_in Ir (Some name) = None
+
 abbrev pub run_arguments : List Row → Option (Run Text)
 run_arguments rows =
-    option_and_then (λ design. option_and_then (λ inputs. option_map (λ how. record { design = design; inputs = inputs; how = how })
-    (how_arguments rows)) (first_of (codes "inputs") rows)) (first_of (codes "design") rows)
+    option_and_then (λ design. option_and_then (λ inputs. option_and_then (λ how. option_map (λ name. record { design = design; inputs = inputs; top = name; how = how })
+    (top_in how.source (first_of (codes "top") rows))) (how_arguments rows)) (first_of (codes "inputs") rows)) (first_of (codes "design") rows)
 
 abbrev pub sim_arguments : List Row → Option (Sim Text)
 sim_arguments rows =

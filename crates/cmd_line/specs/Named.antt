@@ -15,7 +15,7 @@ abbrev pub named_check : Check (Bor (List ℕ)) → Check (List ℕ)
 named_check said = record { design = said.design.now; top = option_copied said.top }
 
 abbrev pub named_run : Run (Bor (List ℕ)) → Run (List ℕ)
-named_run said = record { design = said.design.now; inputs = said.inputs.now; how = said.how }
+named_run said = record { design = said.design.now; inputs = said.inputs.now; top = option_copied said.top; how = said.how }
 
 abbrev pub named_sim : Sim (Bor (List ℕ)) → Sim (List ℕ)
 named_sim said = record { design = said.design.now; rows = said.rows.now }

@@ -72,7 +72,8 @@ fn run<'a>(alloc: Global) -> Result<Command<'a>, AllocError>
     let built = plain_run(alloc);
     let built = with_arg(built, workers(alloc));
     let built = with_arg(built, depth(alloc));
-    with_arg(built, from(alloc))
+    let built = with_arg(built, from(alloc));
+    with_arg(built, top(alloc))
 }
 
 /// What each run has.

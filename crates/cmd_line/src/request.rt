@@ -17,11 +17,13 @@ pub struct Check<N> {
     pub top: Option<N>,
 }
 
-/// `run FILE INPUTS --activations N [--workers W] [--depth D] [--from F]`
+/// `run FILE INPUTS --activations N [--workers W] [--depth D] [--from F] [--top NAME]`
 #[derive(Clone, Copy)]
 pub struct Run<N> {
     pub design: N,
     pub inputs: N,
+    /// The name of the top proc, which is the last one by default; an IR text names its top itself.
+    pub top: Option<N>,
     pub how: How,
 }
 

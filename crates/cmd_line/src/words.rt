@@ -1,6 +1,7 @@
 ghost use Rattle.std.specs.Prelude.{◌≡◌, ◌≤◌, IfOk, IfSome, Option, map, option_map, option_and_then, string_bytes};
+ghost use Rattle.std.specs.Option.{option_copied};
 ghost use Rattle.clap.specs.Words.{first_of, found_of, rows_of, subcommand_rows_of};
-ghost use Rattle.cmd_line.specs.CommandLine.{depth_in, most_in, arguments_of, check_arguments, opt_arguments, run_arguments, schedule_arguments, sim_arguments, subcommand_arguments, how_arguments, timing_arguments, source_in, verilog_arguments, workers_in};
+ghost use Rattle.cmd_line.specs.CommandLine.{depth_in, most_in, arguments_of, check_arguments, opt_arguments, run_arguments, schedule_arguments, sim_arguments, subcommand_arguments, how_arguments, timing_arguments, top_in, source_in, verilog_arguments, workers_in};
 ghost use Rattle.cmd_line.specs.Named.{named, named_check, named_opt, named_run, named_schedule, named_sim, named_verilog};
 ghost use Rattle.cmd_line.specs.Bounds.{IsInBounds, IsWorkerCount};
 
@@ -65,13 +66,30 @@ fn run<'a>(matches: &ArgMatches<'a>) -> Option<Run<&'a str>>
     let Some(inputs) = text(matches, "inputs") else {
         return None;
     };
-    match how(matches) {
-        Some(how) => Some(Run {
+    let Some(how) = how(matches) else {
+        return None;
+    };
+    match top_of(how.source, text(matches, "top")) {
+        Some(top) => Some(Run {
             design,
             inputs,
+            top,
             how,
         }),
         None => None,
+    }
+}
+
+/// The name of the top; `None` where one is said of an IR text.
+fn top_of<'a>(source: Source, name: Option<&'a str>) -> Option<Option<&'a str>>
+    ensures { option_map option_copied result ≡ top_in source (option_copied name.entry) }
+{
+    match source {
+        Source::Dslx => Some(name),
+        Source::Ir => match name {
+            Some(_) => None,
+            None => Some(None),
+        },
     }
 }
 
