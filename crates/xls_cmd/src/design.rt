@@ -6,6 +6,7 @@
 //! Cost: linear in the files, and in the events of a run.
 mod check;
 pub mod laws;
+mod network;
 mod run;
 mod running;
 mod source;

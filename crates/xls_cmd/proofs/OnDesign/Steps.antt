@@ -1,5 +1,5 @@
 -- The steps of the commands, one after the other.
-use Rattle.std.proofs.Common.{◌≡◌, ◌<◌, ◌≤◌, ℕ, zero, suc, Bool, true, false, List, [], ◌∷◌, length, map, get_or, Option, Some, None, Result, Ok, Err, ap, ◌∙◌, arith}
+use Rattle.std.proofs.Common.{◌≡◌, ◌<◌, ◌≤◌, ◌^◌, ℕ, zero, suc, Bool, true, false, List, [], ◌∷◌, length, map, get_or, Option, Some, None, Result, Ok, Err, ap, sym, subst, ◌∙◌, arith}
 use Rattle.std.specs.Prelude.{if◌then◌else◌}
 use Rattle.std.specs.Str.{is_utf8}
 use Rattle.std.specs.Str.Lossy.{utf8_valid_len}
@@ -14,7 +14,10 @@ use Rattle.net_core.specs.declared.net.Inputs.{Inputs}
 use Rattle.net_core.specs.declared.net.Kind.{Kind}
 use Rattle.net_core.specs.declared.net.Kind.TheVariants.{Input as AtInput, Output as AtOutput, Inner as AtInner}
 use Rattle.net_core.specs.Behavior.{Behavior}
-use Rattle.net_core.specs.WellFormed.{IsDepths}
+use Rattle.net_core.specs.Cuts.{final_cut}
+use Rattle.net_core.specs.Outcomes.{outcome_of}
+use Rattle.net_core.specs.WellFormed.{IsDepths, IsInputs, run_of}
+use Rattle.chan_file.specs.OutcomeText.{outcome_text}
 use Rattle.chan_file.specs.declared.refusal.Cause.{Cause}
 use Rattle.chan_file.proofs.Lemmas.Reading.{one_reading}
 use Rattle.xls_cmd.specs.declared.shared.fault.Fault.TheVariants.{Text, Input}
@@ -26,16 +29,15 @@ use Rattle.xls_cmd.proofs.Lemmas.Shared.{gives_is_one, loads_is_one, of_text_is_
 use Rattle.cmd_line.specs.declared.request.Check.{Check}
 use Rattle.cmd_line.specs.declared.request.How.{How}
 use Rattle.cmd_line.specs.declared.request.Run.{Run}
-use Rattle.dslx_narrow_tree.specs.Network.{network_of, behaviors_of}
-use Rattle.dslx_narrow_tree.specs.declared.proc.Module.{Module}
-use Rattle.dslx_narrow.specs.Designs.{GivesDesign, IsDesign, IsRefusal}
-use Rattle.dslx_narrow.specs.declared.design.Design.{Design}
-use Rattle.dslx_tree.specs.declared.item.Module as whole_tree
-use Rattle.dslx_meaning.specs.Network as whole
+use Rattle.dslx_tree.specs.declared.item.Module.{Module}
+use Rattle.dslx_meaning.specs.Network.{behaviors_of, network_of}
+use Rattle.dslx_core.specs.Designs.{core_behaviors, core_network}
+use Rattle.dslx_core.specs.declared.design.Design.{Design}
 use Rattle.dslx_count.specs.declared.size.NetworkSize.{NetworkSize}
-use Rattle.dslx.specs.Texts.{GivesTree, HasNetworkSize, RefusesText}
-use Rattle.xls_cmd.specs.Design.Commands.{ReadsDesign, ReadsInputs, ReadsModule, says, at_fault, check, check_text, run, run_texts, top}
-use Rattle.xls_cmd.specs.Design.Inner.{IsRead, IsSizeRead}
+use Rattle.dslx_elab.specs.Runs.{IsOfAccepted, RunsText}
+use Rattle.dslx.specs.Texts.{GivesTree, HasCheckedText, HasNetworkSize, RefusesText}
+use Rattle.xls_cmd.specs.Design.Commands.{ReadsInputs, ReadsModule, says, at_fault, check, check_text, run, run_texts}
+use Rattle.xls_cmd.specs.Design.Inner.{IsDesignRead, IsSizeRead, RunsDesign}
 use Rattle.xls_cmd.specs.Design.Written.{accepted, depth_by, depths_by, run_text}
 
 -- ---- reading a design
@@ -48,21 +50,8 @@ text_case name bytes text false e = absurd (cc)
 pub text_is_bytes : (name bytes text : List ℕ) → Ok text ≡ text_of name bytes → text ≡ bytes
 text_is_bytes name bytes text e = text_case name bytes text (is_utf8 bytes) e
 
-pub is_read : (name bytes text : List ℕ) (design : Design) → Ok text ≡ text_of name bytes → IsDesign text top design → IsRead name bytes design
-is_read name bytes text design found is = record { tree = is.tree; reads = goes_on text (Ok is.tree) found (accepts is.tree is.given); is = is.is }
-
-refuses : (text : List ℕ) (e : ReadError) → IsRefusal text top e → RefusesFor (GivesDesign text top) e
-refuses text (Syntax at) is = is
-refuses text (Broken rule span) is = is
-refuses text (Over limit) is = is
-refuses text OutOfMemory is = tt
-
-pub stops_at_design : (name : Bor (List ℕ)) (bytes text : List ℕ) (e : ReadError) → Ok text ≡ text_of name.now bytes → IsRefusal text top e → StopsBy (ReadsDesign name.now bytes) (text_refusal name e)
-stops_at_design name bytes text e found is =
-    stops_in_next (Gives (text_of name.now bytes)) (λ t. OfText name.now (GivesDesign t top)) text (text_refusal name e) found
-    (stops_at_text name (GivesDesign text top) e (refuses text e is))
-
--- ---- the size of a design's network
+pub design_is_read : (name : List ℕ) (t : Option (List ℕ)) (bytes text : List ℕ) (design : Design) → Ok text ≡ text_of name bytes → HasCheckedText text t design → IsDesignRead name t bytes design
+design_is_read name t bytes text design found is = record { tree = is.tree; reads = goes_on text (Ok is.tree) found (accepts is.tree is.given); accepted = is.accepted; is = is.is }
 
 pub size_is_read : (name : List ℕ) (t : Option (List ℕ)) (bytes text : List ℕ) (size : NetworkSize) → Ok text ≡ text_of name bytes → HasNetworkSize text t size → IsSizeRead name t bytes size
 size_is_read name t bytes text size found is = record { tree = is.tree; reads = goes_on text (Ok is.tree) found (accepts is.tree is.given); is = is.is }
@@ -95,17 +84,30 @@ some_depths arguments (chan ∷ chans) (suc c) h = some_depths arguments chans c
 pub own_depths : (arguments : Option ℕ) (net : Net) → IsDepths net (depths_by arguments net)
 own_depths arguments net = record { count = length-map net.chans (λ (chan : Chan). depth_by arguments chan.kind chan.depth); some = some_depths arguments net.chans }
 
-pub same_text : (net net' : Net) (behaviors behaviors' : List Behavior) (inputs : Inputs) (how : How) → net ≡ net' → behaviors ≡ behaviors' → run_text net behaviors inputs how.activations (depths_by how.depth net) ≡ run_text net' behaviors' inputs how.activations (depths_by how.depth net')
-same_text net net' behaviors behaviors' inputs how e f = ap (λ x. run_text x behaviors inputs how.activations (depths_by how.depth x)) e ∙ ap (λ b. run_text net' b inputs how.activations (depths_by how.depth net')) f
+-- what a run of a network shows
+abbrev pub shown_of : Net → List Behavior → Inputs → How → List ℕ
+shown_of net behaviors inputs how = run_text net behaviors inputs how.activations (depths_by how.depth net)
+
+-- a network by which a text is run shows what the text's own shows
+pub text_runs : (m : Module) (t : Option (List ℕ)) (net : Net) (behaviors : List Behavior) (inputs : Inputs) (how : How) → RunsText m t net behaviors → IsInputs net inputs.words → how.activations < 2 ^ 32
+    → shown_of (network_of m t) (behaviors_of m t) inputs how ≡ shown_of net behaviors inputs how
+text_runs m t net behaviors inputs how runs fit few =
+    let outcome = λ (depths : List ℕ). outcome_of (run_of (network_of m t) (behaviors_of m t) inputs.words how.activations depths) (final_cut (run_of (network_of m t) (behaviors_of m t) inputs.words how.activations depths)) in
+    ap (λ (x : Net). outcome_text x (outcome (depths_by how.depth x))) (sym runs.network) ∙ ap (outcome_text net) (runs.outcomes inputs.words how.activations (depths_by how.depth net) fit few)
+
+-- so two of them show the same
+pub design_runs : (design : Design) (net : Net) (behaviors : List Behavior) (is : IsOfAccepted design) → RunsText is.text is.top (core_network design) (core_behaviors design) → RunsText is.text is.top net behaviors → RunsDesign design net behaviors
+design_runs design net behaviors is core runs =
+    let same = runs.network ∙ sym core.network in
+    record {
+      network = same;
+      fits = runs.fits;
+      of_net = runs.of_net;
+      shows = λ inputs how fit few. sym (text_runs is.text is.top net behaviors inputs how runs fit few)
+          ∙ text_runs is.text is.top (core_network design) (core_behaviors design) inputs how core (subst (λ n. IsInputs n inputs.words) same fit) few;
+    }
 
 -- ---- one answer
-
-abbrev pub OneDesign : Type 0
-OneDesign = (text : List ℕ) (t : Option (List ℕ)) (a b : Result Module ReadError) → GivesDesign text t a → GivesDesign text t b → a ≡ b
-
-design_is_one : OneDesign → (name bytes : List ℕ) → IsOne (ReadsDesign name bytes)
-design_is_one law name bytes =
-    then_is_one (Gives (text_of name bytes)) (λ text. OfText name (GivesDesign text top)) (gives_is_one (text_of name bytes)) (λ text. of_text_is_one name (GivesDesign text top) (law text top))
 
 pub inputs_is_one : (name file : List ℕ) (net : Net) → IsOne (ReadsInputs name file net)
 inputs_is_one name file net a b (says x is) (says y also) = let same : x ≡ y = let e = one_reading net file (Ok x) (Ok y) is also in cc in ap Ok same
@@ -116,7 +118,7 @@ inputs_is_one name file net a b (at_fault cause at is) (at_fault other place als
     ap (λ (x : Cause × ℕ). Err (Input name x.0 x.1)) same
 
 abbrev pub OneModule : Type 0
-OneModule = (text : List ℕ) (t : Option (List ℕ)) (a b : Result whole_tree.Module ReadError) → GivesTree text t a → GivesTree text t b → a ≡ b
+OneModule = (text : List ℕ) (t : Option (List ℕ)) (a b : Result Module ReadError) → GivesTree text t a → GivesTree text t b → a ≡ b
 
 module_is_one : OneModule → (name : List ℕ) (t : Option (List ℕ)) (bytes : List ℕ) → IsOne (ReadsModule name t bytes)
 module_is_one law name t bytes =
@@ -125,17 +127,23 @@ module_is_one law name t bytes =
 pub check_is_one : OneModule → (holds : Contents) (arguments : Check (List ℕ)) → IsOne (check holds arguments)
 check_is_one law holds arguments =
     then_is_one (Loads holds arguments.design) (λ design. check_text arguments design) (loads_is_one holds arguments.design)
-    (λ design. then_is_one (ReadsModule arguments.design arguments.top design) (λ m. Gives (Ok (accepted (whole.network_of m arguments.top)))) (module_is_one law arguments.design arguments.top design) (λ m. gives_is_one (Ok (accepted (whole.network_of m arguments.top)))))
+    (λ design. then_is_one (ReadsModule arguments.design arguments.top design) (λ m. Gives (Ok (accepted (network_of m arguments.top)))) (module_is_one law arguments.design arguments.top design) (λ m. gives_is_one (Ok (accepted (network_of m arguments.top)))))
 
-texts_are_one : OneDesign → (arguments : Run (List ℕ)) (design inputs : List ℕ) → IsOne (run_texts arguments design inputs)
+-- what stands behind the network's inputs
+abbrev pub shown_by : Run (List ℕ) → Module → Inputs → Result (List ℕ) Fault
+shown_by arguments m words = Ok (shown_of (network_of m arguments.top) (behaviors_of m arguments.top) words arguments.how)
+
+-- what stands behind the design
+abbrev pub inputs_then : Run (List ℕ) → List ℕ → Module → Result (List ℕ) Fault → Type 0
+inputs_then arguments inputs m = Then (ReadsInputs arguments.inputs inputs (network_of m arguments.top)) (λ words. Gives (shown_by arguments m words))
+
+texts_are_one : OneModule → (arguments : Run (List ℕ)) (design inputs : List ℕ) → IsOne (run_texts arguments design inputs)
 texts_are_one law arguments design inputs =
-    then_is_one (ReadsDesign arguments.design design)
-    (λ m. Then (ReadsInputs arguments.inputs inputs (network_of m top)) (λ words. Gives (Ok (run_text (network_of m top) (behaviors_of m top) words arguments.how.activations (depths_by arguments.how.depth (network_of m top))))))
-    (design_is_one law arguments.design design)
-    (λ m. then_is_one (ReadsInputs arguments.inputs inputs (network_of m top)) (λ words. Gives (Ok (run_text (network_of m top) (behaviors_of m top) words arguments.how.activations (depths_by arguments.how.depth (network_of m top)))))
-    (inputs_is_one arguments.inputs inputs (network_of m top)) (λ words. gives_is_one (Ok (run_text (network_of m top) (behaviors_of m top) words arguments.how.activations (depths_by arguments.how.depth (network_of m top))))))
+    then_is_one (ReadsModule arguments.design arguments.top design) (inputs_then arguments inputs) (module_is_one law arguments.design arguments.top design)
+    (λ m. then_is_one (ReadsInputs arguments.inputs inputs (network_of m arguments.top)) (λ words. Gives (shown_by arguments m words))
+    (inputs_is_one arguments.inputs inputs (network_of m arguments.top)) (λ words. gives_is_one (shown_by arguments m words)))
 
-pub run_is_one : OneDesign → (holds : Contents) (arguments : Run (List ℕ)) → IsOne (run holds arguments)
+pub run_is_one : OneModule → (holds : Contents) (arguments : Run (List ℕ)) → IsOne (run holds arguments)
 run_is_one law holds arguments =
     then_is_one (Loads holds arguments.design) (λ design. Then (Loads holds arguments.inputs) (λ inputs. run_texts arguments design inputs)) (loads_is_one holds arguments.design)
     (λ design. then_is_one (Loads holds arguments.inputs) (λ inputs. run_texts arguments design inputs) (loads_is_one holds arguments.inputs) (λ inputs. texts_are_one law arguments design inputs))

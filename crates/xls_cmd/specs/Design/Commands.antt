@@ -1,5 +1,5 @@
 -- The commands of a design, each read from top to bottom: the order of the steps is the order of the causes.
-use Rattle.std.specs.Prelude.{ℕ, List, [], ◌∷◌, Option, None, Result, Ok, Err}
+use Rattle.std.specs.Prelude.{ℕ, List, [], ◌∷◌, Option, Result, Ok, Err}
 use Rattle.xb_io.specs.Contents.{Contents}
 use Rattle.xls_cmd.specs.Shared.Step.{Step, Then, Gives}
 use Rattle.xls_cmd.specs.Shared.Loads.{Loads, OfText, text_of}
@@ -11,27 +11,16 @@ use Rattle.cmd_line.specs.declared.request.Check.{Check}
 use Rattle.cmd_line.specs.declared.request.Run.{Run}
 use Rattle.net_core.specs.declared.net.Net.{Net}
 use Rattle.net_core.specs.declared.net.Inputs.{Inputs}
-use Rattle.dslx_narrow_tree.specs.Network.{network_of, behaviors_of}
-use Rattle.dslx_narrow_tree.specs.declared.proc.Module.{Module}
-use Rattle.dslx_narrow.specs.Designs.{GivesDesign}
-use Rattle.dslx_tree.specs.declared.item.Module as whole_tree
-use Rattle.dslx_meaning.specs.Network as whole
+use Rattle.dslx_tree.specs.declared.item.Module.{Module}
+use Rattle.dslx_meaning.specs.Network.{behaviors_of, network_of}
 use Rattle.dslx.specs.Texts.{GivesTree}
 use Rattle.xls_cmd.specs.Design.Written.{accepted, depths_by, run_text}
 
 -- ---- the steps
 
--- the tree of a design in DSLX, which is UTF-8, is read and isn't refused; its top is the proc of this name, or the last one
-abbrev pub ReadsModule : List ℕ → Option (List ℕ) → List ℕ → Step whole_tree.Module
+-- the tree of a design, which is UTF-8, is read and isn't refused; its top is the proc of this name, or the last one
+abbrev pub ReadsModule : List ℕ → Option (List ℕ) → List ℕ → Step Module
 ReadsModule name top bytes = Then (Gives (text_of name bytes)) (λ text. OfText name (GivesTree text top))
-
--- the top of a design in the narrowed language: its last proc
-abbrev pub top : Option (List ℕ)
-top = None
-
--- the tree of a design in the narrowed language, which is UTF-8, is read and has no fault
-abbrev pub ReadsDesign : List ℕ → List ℕ → Step Module
-ReadsDesign name bytes = Then (Gives (text_of name bytes)) (λ text. OfText name (GivesDesign text top))
 
 -- The file says the words of the network's inputs, or is refused at its first line at fault.
 pub data ReadsInputs (name file : List ℕ) (net : Net) : Result Inputs Fault → Type 0 where
@@ -42,7 +31,7 @@ pub data ReadsInputs (name file : List ℕ) (net : Net) : Result Inputs Fault �
 
 -- `check`, once the file is loaded
 abbrev pub check_text : Check (List ℕ) → List ℕ → Step (List ℕ)
-check_text arguments design = Then (ReadsModule arguments.design arguments.top design) (λ m. Gives (Ok (accepted (whole.network_of m arguments.top))))
+check_text arguments design = Then (ReadsModule arguments.design arguments.top design) (λ m. Gives (Ok (accepted (network_of m arguments.top))))
 
 abbrev pub check : Contents → Check (List ℕ) → Step (List ℕ)
 check holds arguments = Then (Loads holds arguments.design) (λ design. check_text arguments design)
@@ -50,9 +39,9 @@ check holds arguments = Then (Loads holds arguments.design) (λ design. check_te
 -- `run`, once both files are loaded
 abbrev pub run_texts : Run (List ℕ) → List ℕ → List ℕ → Step (List ℕ)
 run_texts arguments design inputs =
-    Then (ReadsDesign arguments.design design) (λ m.
-    Then (ReadsInputs arguments.inputs inputs (network_of m top)) (λ words.
-    Gives (Ok (run_text (network_of m top) (behaviors_of m top) words arguments.how.activations (depths_by arguments.how.depth (network_of m top))))))
+    Then (ReadsModule arguments.design arguments.top design) (λ m.
+    Then (ReadsInputs arguments.inputs inputs (network_of m arguments.top)) (λ words.
+    Gives (Ok (run_text (network_of m arguments.top) (behaviors_of m arguments.top) words arguments.how.activations (depths_by arguments.how.depth (network_of m arguments.top))))))
 
 abbrev pub run : Contents → Run (List ℕ) → Step (List ℕ)
 run holds arguments =

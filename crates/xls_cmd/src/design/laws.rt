@@ -14,6 +14,5 @@ pub fn one_answer()
     ensures run { (holds : Contents) (arguments : Run (List ℕ)) → IsOne (run holds arguments) }
     ensures inputs { (name file : List ℕ) (net : Net) → IsOne (ReadsInputs name file net) }
 {
-    dslx_narrow::one_design();
     dslx::one_module();
 }

@@ -1,4 +1,4 @@
-ghost use Rattle.std.specs.Prelude.{◌≡◌, ◌<◌, ◌^◌, ◌∷◌, [], Ok, length, IfOk, IfErr};
+ghost use Rattle.std.specs.Prelude.{◌≡◌, ◌<◌, ◌^◌, Ok, length, IfOk, IfErr};
 ghost use Rattle.xls_cmd.specs.Shared.Done.{IsDone, StopsBy};
 ghost use Rattle.xls_cmd.specs.Shared.Events.{file_events};
 ghost use Rattle.xls_cmd.specs.Shared.Step.{ExpectedBy};
@@ -6,14 +6,13 @@ ghost use Rattle.cmd_line.specs.Bounds.{IsWorkerCount};
 ghost use Rattle.cmd_line.specs.Named.{named_run};
 ghost use Rattle.xls_cmd.specs.Design.Commands.{run, run_files, run_texts};
 ghost use Rattle.xls_cmd.specs.Design.Ready.{IsReady, shown};
-ghost use Rattle.xls_cmd.specs.Design.Written.{depths_by, run_text};
-ghost use Rattle.dslx_narrow_core.specs.Evaluation.{behavior_of_core};
 
+use crate::design::network::{inputs_of_design, made_network};
 use crate::design::running::{run_text, run_text_alone};
-use crate::design::source::{inputs_of, read_design};
+use crate::design::source::read_design;
 use crate::shared::{Refusal, load, or_no_memory};
 use cmd_line::{How, Run};
-use dslx_narrow::{Design, SourceBody};
+use dslx_core::Design;
 use net_core::Inputs;
 use std::alloc::{AllocError, Global};
 use std::sync::Wait;
@@ -27,7 +26,8 @@ pub struct Ready {
     pub inputs: Inputs,
 }
 
-/// `run FILE INPUTS --activations N` of a design, with a depth of its inner channels perhaps, by as many workers as the arguments say.
+/// `run FILE INPUTS --activations N` of a design, with a depth of its inner channels and the name of its top perhaps, by as many workers as
+/// the arguments say.
 pub fn run_design<'a, R: Threads + Wait + Sync, F: Files, G: Gate + Sync>(
     rt: &R,
     alloc: Global,
@@ -93,8 +93,10 @@ fn prepare_loaded<'a>(
     ensures refused { IfErr result (StopsBy (run_texts (named_run arguments.now) bytes.now file.now)) }
     ensures fits { IfOk result IsReady }
 {
-    let design = read_design(alloc, arguments.design, bytes)?;
-    let inputs = inputs_of(alloc, arguments.inputs, file, &design.net)?;
+    dslx_elab::runs::accepted_texts_run();
+    is_number(arguments.how.activations);
+    let design = read_design(alloc, arguments.design, arguments.top, bytes)?;
+    let inputs = inputs_of_design(alloc, arguments.inputs, file, &design)?;
     Ok(Ready { design, inputs })
 }
 
@@ -110,12 +112,13 @@ fn ran<R: Threads + Wait + Sync, G: Gate + Sync>(
     requires fits { IsReady ready.now }
     ensures { IfOk result (λ text. text.items ≡ shown how ready.now) }
 {
-    let body = SourceBody::new(&ready.design.core);
+    is_number(how.activations);
+    let made = made_network(alloc, &ready.design)?;
     run_text(
         rt,
         alloc,
-        &ready.design.net,
-        &[body],
+        &made.net,
+        made.bodies.as_slice(),
         &ready.inputs,
         how,
         gate,
@@ -127,6 +130,12 @@ fn ran_alone(alloc: Global, ready: &Ready, how: How) -> Result<Vec<u8>, AllocErr
     requires fits { IsReady ready.now }
     ensures { IfOk result (λ text. text.items ≡ shown how ready.now) }
 {
-    let body = SourceBody::new(&ready.design.core);
-    run_text_alone(alloc, &ready.design.net, &[body], &ready.inputs, how)
+    is_number(how.activations);
+    let made = made_network(alloc, &ready.design)?;
+    run_text_alone(alloc, &made.net, made.bodies.as_slice(), &ready.inputs, how)
 }
+
+/// It has 32 bits.
+fn is_number(_number: u32)
+    ensures { _number < 2 ^ 32 }
+{}

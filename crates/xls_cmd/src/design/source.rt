@@ -4,17 +4,17 @@ ghost use Rattle.std.specs.Prelude.{◌<◌, ◌^◌, Ok, length, IfOk, IfErr};
 ghost use Rattle.std.specs.Option.{option_copied};
 ghost use Rattle.net_core.specs.WellFormed.{IsNet, IsInputs};
 ghost use Rattle.xls_cmd.specs.Shared.Done.{StopsBy};
-ghost use Rattle.xls_cmd.specs.Design.Commands.{ReadsDesign, ReadsInputs, ReadsModule};
-ghost use Rattle.xls_cmd.specs.Design.Inner.{IsRead, IsSizeRead};
+ghost use Rattle.xls_cmd.specs.Design.Commands.{ReadsInputs, ReadsModule};
+ghost use Rattle.xls_cmd.specs.Design.Inner.{IsDesignRead, IsSizeRead};
 
 use crate::shared::{Fault, Refusal, read_text};
 use chan_file::{InputError, read_inputs};
-use dslx::{NetworkSize, check_text};
-use dslx_narrow::Design;
+use dslx::{NetworkSize, check_text, design_of_text};
+use dslx_core::Design;
 use net_core::{Inputs, Net};
 use std::alloc::Global;
 
-/// How many procs and channels the network of a design in DSLX has.
+/// How many procs and channels the network of a file's design has. Its top is the proc of this name, or the last one.
 pub fn check_module<'a>(
     alloc: Global,
     name: &'a str,
@@ -32,14 +32,19 @@ pub fn check_module<'a>(
     }
 }
 
-/// The design of a file's bytes, in the narrowed language.
-pub fn read_design<'a>(alloc: Global, name: &'a str, bytes: &[u8]) -> Result<Design, Refusal<'a>>
+/// The checked text of a file's design. Its top is the proc of this name, or the last one.
+pub fn read_design<'a>(
+    alloc: Global,
+    name: &'a str,
+    top: Option<&str>,
+    bytes: &[u8],
+) -> Result<Design, Refusal<'a>>
     requires { length bytes.now < 2 ^ 32 }
-    ensures reads { IfOk result (λ design. IsRead name.entry.now bytes.now design) }
-    ensures refused { IfErr result (StopsBy (ReadsDesign name.entry.now bytes.now)) }
+    ensures reads { IfOk result (λ design. IsDesignRead name.entry.now (option_copied top.entry) bytes.now design) }
+    ensures refused { IfErr result (StopsBy (ReadsModule name.entry.now (option_copied top.entry) bytes.now)) }
 {
     let text = read_text(name, bytes)?;
-    match dslx_narrow::read_design(alloc, text, None) {
+    match design_of_text(alloc, text, top) {
         Ok(design) => Ok(design),
         Err(error) => Err(Refusal::of_text(name, error)),
     }

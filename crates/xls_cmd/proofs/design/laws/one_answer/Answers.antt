@@ -5,7 +5,7 @@ pub returns-clause-check : goal.returns-clause-check
 returns-clause-check c = check_is_one c.one_module.ensures
 
 pub returns-clause-run : goal.returns-clause-run
-returns-clause-run c = run_is_one c.one_design.ensures
+returns-clause-run c = run_is_one c.one_module.ensures
 
 pub returns-clause-inputs : goal.returns-clause-inputs
 returns-clause-inputs c = inputs_is_one

@@ -1,25 +1,26 @@
 use Rattle.std.proofs.Common.{ap, length, arith, subst, sym}
+use Rattle.std.specs.Option.{option_copied}
+use Rattle.dslx.specs.Texts.{GivesTree}
 use Rattle.xls_cmd.specs.Shared.Done.{StopsBy}
 use Rattle.xls_cmd.specs.Shared.Loads.{OfText, text_of}
 use Rattle.xls_cmd.specs.Shared.Step.{Gives}
 use Rattle.xls_cmd.proofs.Lemmas.Shared.{stops_in_first, err_handed}
-use Rattle.dslx_narrow.specs.Designs.{GivesDesign}
-use Rattle.xls_cmd.specs.Design.Commands.{ReadsDesign, top}
-use Rattle.xls_cmd.proofs.OnDesign.Steps.{text_is_bytes, is_read, stops_at_design}
+use Rattle.xls_cmd.specs.Design.Commands.{ReadsModule}
+use Rattle.xls_cmd.proofs.OnDesign.Steps.{design_is_read, stops_at_module, text_is_bytes}
 use Rattle.xls_cmd.proofs.design.source.read_design.Goals as goal
 
 pub returns-in_err-text-clause-refused : goal.returns-in_err-text-clause-refused
 returns-in_err-text-clause-refused c =
-    err_handed c.from_residual.result c.in_err-text.field-0.0 (StopsBy (ReadsDesign c.args.name.now c.args.bytes.now)) c.from_residual.ensures.1
-    (stops_in_first (Gives (text_of c.args.name.now c.args.bytes.now)) (λ text. OfText c.args.name.now (GivesDesign text top)) c.in_err-text.field-0.0 c.in_err-text.ensures.refused)
+    err_handed c.from_residual.result c.in_err-text.field-0.0 (StopsBy (ReadsModule c.args.name.now (option_copied c.args.top) c.args.bytes.now)) c.from_residual.ensures.1
+    (stops_in_first (Gives (text_of c.args.name.now c.args.bytes.now)) (λ text. OfText c.args.name.now (GivesTree text (option_copied c.args.top))) c.in_err-text.field-0.0 c.in_err-text.ensures.refused)
 
-pub read_design-requires : goal.read_design-requires
-read_design-requires c = omega (arith, ap length (text_is_bytes c.args.name.now c.args.bytes.now c.in_ok-text.text.now c.in_ok-text.ensures.found))
+pub design_of_text-requires : goal.design_of_text-requires
+design_of_text-requires c = omega (arith, ap length (text_is_bytes c.args.name.now c.args.bytes.now c.in_ok-text.text.now c.in_ok-text.ensures.found))
 
 pub returns-in-Ok-clause-reads : goal.returns-in-Ok-clause-reads
-returns-in-Ok-clause-reads c = is_read c.args.name.now c.args.bytes.now c.in_ok-text.text.now c.in-Ok.design c.in_ok-text.ensures.found c.in-Ok.ensures.accepted
+returns-in-Ok-clause-reads c = design_is_read c.args.name.now (option_copied c.args.top) c.args.bytes.now c.in_ok-text.text.now c.in-Ok.design c.in_ok-text.ensures.found c.in-Ok.ensures.accepted
 
 pub returns-in-Err-clause-refused : goal.returns-in-Err-clause-refused
 returns-in-Err-clause-refused c =
-    subst (StopsBy (ReadsDesign c.args.name.now c.args.bytes.now)) (sym c.of_text.ensures)
-    (stops_at_design c.args.name c.args.bytes.now c.in_ok-text.text.now c.in-Err.error c.in_ok-text.ensures.found c.in-Err.ensures.refused)
+    subst (StopsBy (ReadsModule c.args.name.now (option_copied c.args.top) c.args.bytes.now)) (sym c.of_text.ensures)
+    (stops_at_module c.args.name (option_copied c.args.top) c.args.bytes.now c.in_ok-text.text.now c.in-Err.error c.in_ok-text.ensures.found c.in-Err.ensures.refused)
