@@ -4,6 +4,7 @@
 usage: designs.py            holds each NAME.out against its model
        designs.py --write    writes NAME.in and NAME.out anew
        designs.py --meaning  also has the definitions of DSLX run each design, by spec_run.py (a minute)
+       designs.py --program PROGRAM  also has the program `xls` run each, in one thread and in four
 
 A model is a network of Python generators, one a proc, over FIFOs; beside it what its outputs have to be is worked in closed form: a
 convolution, zlib's CRC-32, the clients in turn.
@@ -11,6 +12,7 @@ convolution, zlib's CRC-32, the clients in turn.
 import os
 import random
 import re
+import subprocess
 import sys
 import threading
 import zlib
@@ -264,6 +266,13 @@ def meaning(name, channels):
     return ''.join(line + '\n' for line in got.partition('| ')[2].split(' / '))
 
 
+def written(program, name, workers):
+    """What the program writes of a run of the design."""
+    words = [program, 'run', path(name, '.x'), path(name, '.in'), '--activations', str(ACTIVATIONS), '--workers', workers]
+    ran = subprocess.run(words, capture_output=True, text=True)
+    return ran.stdout + ran.stderr
+
+
 def main():
     wrong = 0
     for name, model in DESIGNS.items():
@@ -277,6 +286,12 @@ def main():
             if open(path(name, ending), encoding='utf-8').read() != content:
                 print('%s%s is not what the model says' % (name, ending))
                 wrong += 1
+        if '--program' in sys.argv:
+            for workers in ('1', '4'):
+                got = written(sys.argv[sys.argv.index('--program') + 1], name, workers)
+                if got != text:
+                    print('%s: the program writes, by %s workers,\n%s' % (name, workers, got))
+                    wrong += 1
         if '--meaning' in sys.argv:
             got = meaning(name, channels)
             if got != text:
