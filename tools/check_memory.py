@@ -71,9 +71,9 @@ void _exit(int status) {
 
 # the cases of tests/ whose first call is tried
 CASES = [
-    "narrow/last_proc_is_the_top",
-    "narrow/words_of_two_inputs",
-    "narrow/run",
+    "designs/last_proc_is_the_top",
+    "designs/words_of_two_inputs",
+    "designs/run",
     "ir/run_of_a_package",
     "ir/two_procs_deeper",
     "ir_texts/operand_that_comes_later",
@@ -84,9 +84,9 @@ CASES = [
     "opt/optimised_package",
     "sim/simulation",
     "words/commands_that_come_later",
-    "narrow/no_such_file",
-    "narrow/text_that_is_no_design",
-    "narrow_texts/name_that_nothing_declares",
+    "designs/no_such_file",
+    "designs/text_that_is_no_design",
+    "design_texts/name_that_nothing_declares",
     "inputs/channel_twice_without_words",
 ]
 WANTING = (b"", b"out of memory\n", 3)

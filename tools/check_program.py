@@ -16,10 +16,10 @@ import tempfile
 
 from run_tests import case_of, contents
 
-DESIGN = contents("narrow/inc.x")
-IN_TEXT = contents("narrow/in.txt")
+DESIGN = contents("designs/inc.x")
+IN_TEXT = contents("designs/in.txt")
 RUN = "run inc.x in.txt --activations 5"
-OUTCOME = case_of("narrow/run").wanted[0].decode()
+OUTCOME = case_of("designs/run").wanted[0].decode()
 USAGE = case_of("words/no_words").wanted[1].decode()
 PAST_LIMIT = "limit file: 4194305, at most 4194304\n"
 

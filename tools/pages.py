@@ -60,19 +60,18 @@ def what_it_is(name):
 
 
 def table():
-    """The rows of the table of crates, the crates that are tests alone, and those of the narrowed language, whose family has a row above."""
+    """The rows of the table of crates, and the crates that are tests alone."""
     uses, _ = crates()
     closed = {}
     for name, below in uses.items():
         closed[name] = {*below}.union(*(closed[it] for it in below))
     tests = [name for name in uses if name.endswith(('_samples', '_tests'))]
-    narrow = [name for name in uses if name.startswith('dslx_narrow')]
     rows = ['| crate | what it is | stands on |', '|---|---|---|']
     for name, below in uses.items():
-        if name not in tests and name not in narrow:
+        if name not in tests:
             direct = [it for it in below if not any(it in closed[other] for other in below)]
             rows.append(f'| `{name}` | {what_it_is(name)} | {" ".join(direct)} |')
-    return '\n'.join([*rows, '', f'Tests alone: {", ".join(f"`{name}`" for name in tests)}. The narrowed language: {" ".join(narrow)}.'])
+    return '\n'.join([*rows, '', f'Tests alone: {", ".join(f"`{name}`" for name in tests)}.'])
 
 
 def slugs(page):

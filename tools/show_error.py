@@ -73,7 +73,7 @@ def language(words):
         return 'verilog'
     if '--from=ir' in options or ('--from', 'ir') in zip(options, options[1:]):
         return 'ir'
-    return 'language' if words[:1] == ['check'] else 'narrowed'
+    return 'language'
 
 
 def row_in(tables, key):
@@ -88,7 +88,7 @@ def syntax(found, words, text):
 
 
 def broken(found, words, text):
-    names = [f'{it} rules' for it in (language(words), 'narrowed', 'language', 'ir', 'verilog')]
+    names = [f'{it} rules' for it in (language(words), 'language', 'ir', 'verilog')]
     part = rules.cell_in(names, found['key'], 'named at')
     return Refusal(f'rule {found["key"]}', row_in(names, found['key'])[1], (int(found['at']), int(found['end'])), part or '')
 

@@ -1,8 +1,0 @@
-mod Accepted
-mod Configs
-mod Expressions
-mod Patterns
-mod Reading
-mod Sound
-mod Statements
-mod Tops

@@ -1,2 +1,0 @@
--- Contracts of private parts.
-pub mod Walking

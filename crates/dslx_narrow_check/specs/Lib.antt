@@ -1,2 +1,0 @@
--- contracts of private parts
-pub mod Inner

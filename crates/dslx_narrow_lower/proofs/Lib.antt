@@ -1,3 +1,0 @@
-mod Deeds
-mod Meaning
-mod Same

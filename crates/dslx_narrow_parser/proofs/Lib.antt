@@ -1,2 +1,0 @@
-mod OneTree
-mod Stepping

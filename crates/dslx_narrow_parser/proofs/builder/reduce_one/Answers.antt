@@ -1,7 +1,0 @@
-use Rattle.std.proofs.Common.{◌∙◌, ap}
-use Rattle.dslx_narrow_parser.specs.Building.{reduced}
-use Rattle.dslx_narrow_parser.proofs.Stepping.{reduce_one}
-use Rattle.dslx_narrow_parser.proofs.builder.reduce_one.Goals as goal
-
-pub returns : goal.returns
-returns c = λ rest ls. reduce_one rest ls c.args.production c.args.state.now c.reduce.new.self ((c.in_ok-reduce.ensures {u = tt}) ∙ ap (λ r. reduced r c.args.state.now) c.rule_of.ensures)

@@ -1,6 +1,0 @@
-use Rattle.std.proofs.Common.{◌≡◌, drop}
-use Rattle.dslx_narrow_parser.specs.Building.{built}
-use Rattle.dslx_narrow_parser.proofs.builder.run.Given as goal
-
-abbrev pub invariant-loop-step : goal.invariant-loop-step
-invariant-loop-step l = built (drop l.step-index l.steps) (drop l.next l.tokens) l.state ≡ built l.steps l.tokens l.initial.state

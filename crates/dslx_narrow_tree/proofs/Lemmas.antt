@@ -1,2 +1,0 @@
--- The public library: folds over trees, and induction on them.
-pub mod Trees
