@@ -1,9 +1,9 @@
 #!/usr/bin/env python3
-"""Works constant expressions of DSLX by Python's whole numbers, as rows for a test of `const_eval`.
+"""Works constant expressions of DSLX by Python's whole numbers, as texts of a case of tests/dslx.
 
 usage: const_vectors.py [--write]
 
-Each row of crates/dslx_tests/src/constants/generated/vectors.rt is a text whose last item is a constant that is to be true: an
+Each text of tests/dslx/constants_of_another_program.table is one whose last item is a constant that is to be true: an
 expression, made at random of the constructs below, is to equal the number that is worked here. Numbers are kept as what they
 are, negative ones too, and not as words: a value is brought into its type's range where one is made. It fails where the file
 has other rows; with --write it writes them.
@@ -11,7 +11,7 @@ has other rows; with --write it writes them.
 import os
 import sys
 
-FILE = os.path.join(os.path.dirname(os.path.abspath(__file__)), '..', 'crates', 'dslx_tests', 'src', 'constants', 'generated', 'vectors.rt')
+FILE = os.path.join(os.path.dirname(os.path.abspath(__file__)), '..', 'tests', 'dslx', 'constants_of_another_program.table')
 ROWS = 8
 WIDTHS = (1, 2, 3, 7, 8, 9, 31, 32, 33, 63, 64, 65, 127, 128)
 HEAD = ('fn more<N: u32>(x: uN[N]) -> uN[N] { x + uN[N]:1 } fn wider<N: u32, M: u32 = {N + u32:1}>(x: uN[N]) -> uN[M] { (x as uN[M]) + (x as uN[M]) } '
@@ -254,13 +254,12 @@ def rows(construct):
 
 
 def file_text():
-    tables = ['pub const %s: &str = "\n%s\n";\n' % (construct.upper(), '\n'.join(rows(construct))) for construct in CONSTRUCTS]
-    return '\n'.join(['//! Written by tools/const_vectors.py.\n//!\n//! Constant expressions, made at random, with the numbers that another program works: a table for each outermost construct.\n'] + tables)
+    parts = ['# %s\n%s\n' % (construct, '\n'.join(rows(construct))) for construct in CONSTRUCTS]
+    return '\n'.join(['# Written by tools/const_vectors.py: expressions, made at random, by the construct that stands outermost.\n'] + parts)
 
 
 def main():
     if '--write' in sys.argv[1:]:
-        os.makedirs(os.path.dirname(FILE), exist_ok=True)
         open(FILE, 'w', encoding='utf-8').write(file_text())
     elif not os.path.exists(FILE) or open(FILE, encoding='utf-8').read() != file_text():
         sys.exit('the vectors of constants are not those of tools/const_vectors.py')

@@ -4,7 +4,7 @@
     tools/run_tests.py PROGRAM [GROUP | GROUP/NAME ..]
 
 Status, standard output and standard error must be exactly those of the case; tests/README.md says how a case looks. Prints the
-first differences and 'N passed, M failed', and ends with 1 where a case failed or there was none.
+first differences, 'N passed, M failed' and how many calls these made, and ends with 1 where a case failed or there was none.
 """
 
 import concurrent.futures
@@ -31,6 +31,7 @@ class Case:
         self.calls = [lines] if kind == '.args' else [line.split() for line in lines]
         self.wanted = self.text('.out'), self.text('.err'), int(self.text('.status') or 0)
         self.rows = self.base + '.rows' if os.path.exists(self.base + '.rows') else None
+        self.table = self.base + '.table' if os.path.exists(self.base + '.table') else None
 
     def text(self, kind):
         """The bytes of this file of the case; nothing where it has no such file."""
@@ -50,13 +51,52 @@ class Case:
             module.flush()
             return answer(program, ['sim', module.name, self.rows], self.folder)
 
+    def texts(self):
+        """The texts of the table, each with what its call must answer."""
+        found = []
+        for line in self.text('.table').decode().splitlines():
+            if line.startswith('    '):
+                found[-1][1].append(line[4:] + '\n')
+            elif line and not line.startswith('# '):
+                found.append((line, []))
+        return [(text, self.wanted_below(''.join(below).encode())) for text, below in found]
+
+    def wanted_below(self, below):
+        """What is wanted of a text below which this stands."""
+        out, err, status = self.wanted
+        return (out, err, status) if not below else (out, below, status) if status else (below, err, status)
+
+    def asked(self):
+        """Each call with the text that it is about, if it has one, and with what it must answer."""
+        if self.table:
+            return [(words, text, wanted) for words in self.calls for text, wanted in self.texts()]
+        return [(words, None, self.wanted) for words in self.calls]
+
+    def answer_about(self, program, words, text):
+        """What a call answers about a text in its frame, without the name of that file."""
+        with tempfile.NamedTemporaryFile('w', suffix='.x', encoding='utf-8') as file:
+            file.write(framed(self.folder, words, text))
+            file.flush()
+            out, err, status = answer(program, [file.name if word.startswith('@') else word for word in words], self.folder)
+            return out, err.removeprefix(file.name.encode() + b': '), status
+
     def difference(self, program):
         """The first call that answers otherwise, with what it answers; None where none does."""
-        for words in self.calls:
-            got = self.answer(program, words)
-            if got != self.wanted:
-                return '%s: %s\n  got    %s\n  wanted %s' % (self.name, ' '.join(words), shown(got), shown(self.wanted))
-        return None if self.calls else '%s: no call' % self.name
+        asked = self.asked()
+        for words, text, wanted in asked:
+            got = self.answer(program, words) if text is None else self.answer_about(program, words, text)
+            if got != wanted:
+                return '%s: %s\n  got    %s\n  wanted %s' % (self.name, text or ' '.join(words), shown(got), shown(wanted))
+        return None if asked else '%s: no call' % self.name
+
+
+def framed(folder, words, text):
+    """The text in its frame: the file behind the `@` of a word, where it stands in place of the `@` there; `@` alone is none."""
+    (frame,) = [word[1:] for word in words if word.startswith('@')]
+    if not frame:
+        return text
+    with open(os.path.join(folder, frame), encoding='utf-8') as file:
+        return file.read().replace('@', text, 1)
 
 
 def shown(given):
@@ -87,7 +127,7 @@ def cases(names=()):
 def strays():
     """What is wanted of a case that isn't there."""
     bases = {case.base for case in cases()}
-    return [path for path in files('.out', '.err', '.status', '.rows') if os.path.splitext(path)[0] not in bases]
+    return [path for path in files('.out', '.err', '.status', '.rows', '.table') if os.path.splitext(path)[0] not in bases]
 
 
 def case_of(name):
@@ -109,7 +149,8 @@ def main():
     differences += ['%s: no such case' % os.path.relpath(path, TESTS) for path in strays()]
     for said in differences[:SHOWN]:
         print(said)
-    print('%d passed, %d failed' % (max(0, len(found) - len(differences)), len(differences)))
+    calls = sum(len(case.asked()) for case in found)
+    print('%d passed, %d failed, %d calls' % (max(0, len(found) - len(differences)), len(differences), calls))
     sys.exit(bool(differences) or not found)
 
 
