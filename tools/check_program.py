@@ -87,6 +87,13 @@ def row_of(count):
 """ for i in range(count))
 
 
+def chain(count):
+    """A design with a constant for which so many calls are open at once: each function adds 1 to what the one before it gives."""
+    functions = "".join(f"fn f{i + 1}(x: u32) -> u32 {{ f{i}(x) + u32:1 }} " for i in range(count))
+    proc = "proc Main { b: chan<bool> out; config(b: chan<bool> out) { (b,) } init { () } next(s: ()) { send(join(), b, A); } }\n"
+    return f"fn f0(x: u32) -> u32 {{ x }} {functions}const A = f{count}(u32:0) == u32:{count};\n{proc}"
+
+
 def adders(count):
     """A package of so many adders of 32 bits, each behind the one before."""
     nodes = "".join(f"  add.{i}: bits[32] = add({f'add.{i - 1}' if i > 2 else 'literal.1'}, literal.1, id={i})\n"
@@ -138,6 +145,12 @@ def check_long_row(program, folder, procs=200, count=1000):
     outcome = "\n".join(streams + [f"proc P{i} state 0x0 done" for i in range(procs)]) + "\n"
     got = answer(program, folder, f"run row.ir row.txt --activations {count} --from ir")
     differs("a long row of procs", got, (outcome, "", 0))
+
+
+def check_chain(program, folder):
+    """Two thousand calls are open at once."""
+    got = answer(program, written(folder, {"chain.x": chain(2000)}), "run chain.x /dev/null --activations 1")
+    differs("a chain of calls", got, ("out b 1: 0x1\nproc Main state () done\n", "", 0))
 
 
 def check_many_stages(program, folder, count=65535):
@@ -222,7 +235,8 @@ def main():
     program = os.path.abspath(sys.argv[1])
     with tempfile.TemporaryDirectory() as folder:
         lay_out(folder)
-        for check in (check_cases, check_long_row, check_many_stages, check_many_cycles, check_streams, check_fronts, check_memory):
+        for check in (check_cases, check_long_row, check_chain, check_many_stages, check_many_cycles, check_streams, check_fronts,
+                      check_memory):
             check(program, folder)
     print(f"{len(CASES) + len(LONG)} cases, long texts, streams and memory: the program answers as it should")
 
