@@ -47,6 +47,11 @@ def many(count, ends, body):
     return f"proc P {{ {'; '.join(outs)}; config({', '.join(outs)}) {{ ({names}) }} init {{ () }} next(s: ()) {{ {sends} }} }}"
 
 
+def functions(count):
+    """So many functions."""
+    return "".join(f"fn f{i}() -> u8 {{ u8:1 }}\n" for i in range(count))
+
+
 def changed(old, new):
     assert old in DESIGN
     return DESIGN.replace(old, new, 1)
@@ -67,6 +72,8 @@ LONG = [
     ("1,024 channels", many(1024, 1024, 1), "ok procs 1 channels 1024\n", "", 0),
     ("1,025 channels", many(1025, 1025, 1), "", "limit channels: 1025, at most 1024", 8),
     ("a rule before the channels", WRONG, "", broken(WRONG), 7),
+    ("4,096 instances", functions(4095) + DESIGN, "ok procs 1 channels 2\n", "", 0),
+    ("4,097 instances", functions(4096) + DESIGN, "", "limit instances: 4097, at most 4096", 8),
     ("4,097 procs, before all rules", "".join(f"proc P{i} {{ config() {{ }} init {{ x }} next(s: ()) {{ }} }}\n" for i in range(4097)),
      "", "limit instances: 4097, at most 4096", 8),
 ]
