@@ -1,14 +1,8 @@
-//! Tests of what DSLX texts are read with and what is made of them, in a crate of their own so that they cost the crates below nothing.
+//! Tests of what no output shows of DSLX texts, in a crate of their own so that they cost the crates below nothing: all else is in tests/dslx.
 #![tactic(auto)]
 
 #[cfg(test)]
-mod constants;
-#[cfg(test)]
 mod functions;
-#[cfg(test)]
-mod nesting;
-#[cfg(test)]
-mod operators;
 pub mod parser;
 #[cfg(test)]
 mod procs;

@@ -1,16 +1,6 @@
-//! Tests of the reader of DSLX texts: texts of each rule of the grammar and their trees, refusals with positions, and nesting
-//! at its limit. All were worked by hand.
+//! Tests of the reader of DSLX texts: the spans of all parts, of which no rule names some, and trees that mean the same. All were worked
+//! by hand.
 #[cfg(test)]
 mod answers;
 #[cfg(test)]
-mod expressions;
-#[cfg(test)]
-mod items;
-#[cfg(test)]
-mod nesting;
-#[cfg(test)]
 mod places;
-#[cfg(test)]
-mod refusals;
-#[cfg(test)]
-mod types;

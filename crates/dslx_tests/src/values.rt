@@ -1,7 +1,4 @@
-//! Tests of operators on values of DSLX texts, and of values and types themselves. All were worked by hand.
+//! Tests of values that no text has.
 
-mod arrays;
-mod numbers;
-mod operators;
 mod shared;
 mod values;

@@ -1,7 +1,7 @@
 //! Spans. Below each text stands its shape, with the span of each part before it; an expression that is a block has its span
-//! twice.
+//! twice. And chains of `&&` and `||`, which mean the same from either side.
 
-use crate::parser::answers::{Frame, first_odd};
+use crate::parser::answers::{Frame, WHOLE, first_odd};
 use std::test::Fail;
 
 const PLACES: &str = "
@@ -46,6 +46,20 @@ const PLACED: Frame<'static> = Frame {
 #[test]
 fn places(rt: HostRuntime) -> Result<(), Fail> {
     let odd = first_odd(rt.alloc(), PLACES, &PLACED)?;
+    assert_eq!(rt; odd.as_str(), "");
+    Ok(())
+}
+
+const CHAINS: &str = "
+const A = a == b && c && d;
+    (const A = (&& (&& (== a b) c) d))
+const A = a && b || c || d;
+    (const A = (|| (|| (&& a b) c) d))
+";
+
+#[test]
+fn chains(rt: HostRuntime) -> Result<(), Fail> {
+    let odd = first_odd(rt.alloc(), CHAINS, &WHOLE)?;
     assert_eq!(rt; odd.as_str(), "");
     Ok(())
 }

@@ -6,9 +6,7 @@ ghost use Rattle.dslx_meaning.specs.Items.{meanings_of};
 ghost use Rattle.dslx_elab.specs.Adding.{KeepsTable};
 
 use base::texts::Name;
-use dslx_core::Instance;
 use dslx_core::lowering::Instantiated;
-use dslx_core::networks::ProcInstance;
 use dslx_elab::{MadeInstances, add_proc};
 use dslx_instance::table::InstanceTable;
 use dslx_meaning::DslxValue;
@@ -85,12 +83,4 @@ fn wanted(alloc: Global, process: &Proc) -> Result<Instantiated, AllocError> {
         name: Name::from_string(String::from_str(alloc, process.name.name.as_str())?),
         parametric_args: Seq::from_vec(parametric_args),
     })
-}
-
-/// The last instance.
-pub fn last_instance(procs: &[ProcInstance]) -> Result<&Instance, Fail> {
-    match procs {
-        [.., last] => Ok(&last.instance),
-        [] => Err(Fail::from("no proc")),
-    }
 }

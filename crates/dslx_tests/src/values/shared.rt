@@ -1,7 +1,6 @@
-//! What the tests share: bits as values, and what is wanted of an answer.
+//! Bits and arrays of bytes as values.
 
-use dslx_meaning::{DslxType, DslxValue, SignedWord};
-use dslx_values::{bits_of, same_value};
+use dslx_meaning::DslxValue;
 use std::alloc::{AllocError, Global};
 use std::process::Abort;
 use xb_bits::{Bits, slice};
@@ -36,11 +35,6 @@ impl Kept {
     }
 }
 
-/// Bits of this sign and width, which hold the number, as a value that is kept.
-pub fn held<R: Abort>(rt: &R, signed: bool, width: u8, number: u128) -> Kept {
-    Kept::new(bits(rt, signed, width, number))
-}
-
 /// The elements of an array of unsigned bytes.
 pub fn elements<R: Abort>(
     rt: &R,
@@ -58,38 +52,4 @@ pub fn elements<R: Abort>(
 pub fn bytes<R: Abort>(rt: &R, alloc: Global, numbers: &[u8]) -> Result<Kept, AllocError> {
     let elements = elements(rt, alloc, numbers)?;
     Ok(Kept::new(DslxValue::Array(Seq::from_vec(elements))))
-}
-
-/// The type of unsigned or signed bits.
-pub fn bit_type(signed: bool, width: u128) -> DslxType {
-    DslxType::Bits(signed, width)
-}
-
-/// The answer is these bits.
-pub fn is_bits<R: Abort>(rt: &R, got: Option<DslxValue>, signed: bool, width: u8, want: u128) {
-    is_word(rt, got.and_then(word_of), signed, width, want);
-}
-
-/// The word of a value of bits.
-fn word_of(value: DslxValue) -> Option<SignedWord> {
-    bits_of(&value)
-}
-
-fn is_word<R: Abort>(rt: &R, got: Option<SignedWord>, signed: bool, width: u8, want: u128) {
-    let Some(found) = got else {
-        assert!(rt; false, "no bits, in place of {want}");
-        return;
-    };
-    assert_eq!(rt; found.signed, signed, "the sign at {want}");
-    assert_eq!(rt; found.word.width(), width, "the width at {want}");
-    assert_eq!(rt; found.word.value(), want);
-}
-
-/// The answer is this value.
-pub fn is_value<R: Abort>(rt: &R, got: Option<DslxValue>, want: &DslxValue, what: &str) {
-    let is_same = match got.map(Kept::new) {
-        Some(value) => same_value(value.get(), want),
-        None => false,
-    };
-    assert!(rt; is_same, "another value, or none: {what}");
 }
