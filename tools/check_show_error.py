@@ -29,7 +29,7 @@ import time
 sys.dont_write_bytecode = True
 import rules
 import show_error
-from run_tests import cases
+from run_tests import cases, framed
 
 TOP = os.path.dirname(os.path.dirname(os.path.abspath(__file__)))
 SHOW = [sys.executable, f'{TOP}/tools/show_error.py']
@@ -256,14 +256,24 @@ def the_script(room):
     check((ran.returncode, ran.stdout, ran.stderr) == (7, b'some output\n', line), './xls elsewhere', ran)
 
 
-def all_refusals():
+def calls_of(case, room):
+    """The words of each call of a case, with a file where they are about a text of its table, and the line and status that are wanted."""
+    for words, text, (_, err, status) in case.asked():
+        if text is not None:
+            path = f'{room}/text.x'
+            put(path, framed(case.folder, words, text).encode())
+            words = [path if it.startswith('@') else it for it in words]
+            err = f'{path}: '.encode() + err if err else err
+        yield words, err, status
+
+
+def all_refusals(room):
     """Each refusal of a case has a sentence of the table, and a line of its text where it names a place."""
     for case in cases():
-        _, err, status = case.wanted
-        for words in case.calls:
-            os.chdir(case.folder)
+        os.chdir(case.folder)
+        for words, err, status in calls_of(case, room):
             found = show_error.read(status, err.decode(), words)
-            check(bool(found) == (status in show_error.LINES), case.name, 'is read as', found)
+            check(bool(found) == (status in show_error.LINES), case.name, err, 'is read as', found)
             if found:
                 refusal, _, text = found
                 check('docs/rules.txt' not in refusal.sentence, case.name, refusal)
@@ -288,7 +298,8 @@ def main():
         print(f'there is no {program}, so its answers are played')
         program = None
     sentences()
-    all_refusals()
+    with tempfile.TemporaryDirectory() as room:
+        all_refusals(room)
     with tempfile.TemporaryDirectory() as room:
         count = the_cases(room, program)
     for step in (names_and_files, the_pages, streams_and_colours, pieces_and_signals, the_script):
