@@ -1,21 +1,24 @@
 #!/usr/bin/env python3
-"""Runs the built program with each of its allocations failing in turn.
+"""Runs the built program with each of its allocations failing in turn, alone and with all behind it.
 
     tools/check_memory.py PROGRAM
 
 Whichever allocation fails, the program must end with status 3, its line and no output, or answer as if none had failed. The
 allocations of the C library are counted and failed by a small library that is loaded before it, which `cc` compiles; without `cc`
-nothing is tested, which is said. Prints the first case that differs, and ends with 1.
+nothing is tested, which is said. Prints the first that differ, and ends with 1 where there is one.
 """
 
+import concurrent.futures
 import itertools
 import os
 import shutil
 import subprocess
 import sys
 import tempfile
+from functools import partial
+from typing import NamedTuple
 
-from run_tests import answer as answer_of, case_of
+from run_tests import SHOWN, answer as answer_of, case_of, shown
 
 FAILING = r"""
 #define _GNU_SOURCE
@@ -33,11 +36,16 @@ void *__libc_realloc(void *, size_t);
 void *__libc_memalign(size_t, size_t);
 
 static unsigned long made, failing;
+static int with_rest;
 
-/* Whether this allocation is the one that fails. */
+/* Whether this allocation fails: it is the one to fail, or one behind it where these fail too. Threads may ask at once. */
 static int fails(void) {
-  if (!failing) failing = strtoul(getenv("FAILING"), NULL, 10);
-  if (++made != failing) return 0;
+  unsigned long number = __atomic_add_fetch(&made, 1, __ATOMIC_SEQ_CST);
+  if (number == 1) {
+    with_rest = getenv("WITH_REST") != NULL;
+    failing = strtoul(getenv("FAILING"), NULL, 10);
+  }
+  if (with_rest ? number < failing : number != failing) return 0;
   errno = ENOMEM;
   return 1;
 }
@@ -56,7 +64,7 @@ int posix_memalign(void **at, size_t align, size_t size) {
 /* Says at the end how many there were. */
 __attribute__((destructor)) static void tell(void) {
   unsigned long count = made;
-  int file = open("made", O_WRONLY | O_CREAT | O_TRUNC, 0600);
+  int file = open(getenv("MADE"), O_WRONLY | O_CREAT | O_TRUNC, 0600);
   dprintf(file, "%lu", count);
   close(file);
 }
@@ -69,20 +77,27 @@ void _exit(int status) {
 }
 """
 
-# the cases of tests/ whose first call is tried
+# the cases of tests/ whose first call is tried, and where that writes a module the simulation of it too
 CASES = [
     "designs/last_proc_is_the_top",
     "designs/words_of_two_inputs",
     "designs/run",
+    "designs/run_by_several_workers",
+    "dslx/a_little_of_all",
+    "dslx/two_procs_that_wait",
+    "ir/a_little_of_all",
     "ir/run_of_a_package",
     "ir/two_procs_deeper",
     "ir_texts/operand_that_comes_later",
     "schedule/schedule",
     "schedule/too_few_stages",
     "verilog/request_before_reply",
+    "verilog/pipeline_of_three_stages",
     "verilog/depth_past_the_limit",
     "opt/optimised_package",
+    "sim/a_little_of_all",
     "sim/simulation",
+    "rows/one_cycle_too_many",
     "words/commands_that_come_later",
     "designs/no_such_file",
     "designs/text_that_is_no_design",
@@ -90,6 +105,24 @@ CASES = [
     "inputs/channel_twice_without_words",
 ]
 WANTING = (b"", b"out of memory\n", 3)
+
+# The allocations of a call are tried in so many shares, side by side.
+SHARES = 2 * os.cpu_count()
+
+
+class Call(NamedTuple):
+    """A call in a folder, and what it answers with ample memory."""
+    name: str
+    words: list
+    folder: str
+    right: tuple
+
+
+class Share(NamedTuple):
+    """How many allocations failed in a share, how many of these the program said so of, and what differed."""
+    failed: int
+    wanting: int
+    difference: str
 
 
 def build_library(folder):
@@ -101,34 +134,45 @@ def build_library(folder):
     return library
 
 
-def laid_out(folder, case):
-    """A copy of the folder of the case, in which the library may write."""
-    return shutil.copytree(case.folder, os.path.join(folder, *case.name.split("/")))
+def calls_of(program, folder):
+    """The calls of all cases; a module that is written is kept in the folder."""
+    for name in CASES:
+        case = case_of(name)
+        words = case.calls[0]
+        if not case.rows:
+            yield Call(name, words, case.folder, case.wanted)
+            continue
+        right = answer_of(program, words, case.folder)
+        module = os.path.join(folder, name.replace("/", "_") + ".v")
+        with open(module, "wb") as file:
+            file.write(right[0])
+        yield Call(name, words, case.folder, right)
+        yield Call(name + ", simulated", ["sim", module, case.rows], case.folder, case.wanted)
 
 
-def answer(program, words, folder, library, failing):
-    """What the program answers where this allocation fails, and how many it made."""
-    env = {"LD_PRELOAD": library, "FAILING": str(failing)}
-    done = subprocess.run([program, *words], cwd=folder, env=env, capture_output=True, check=False)
-    with open(os.path.join(folder, "made"), encoding="utf-8") as file:
+def answer(program, call, folder, library, failing, with_rest):
+    """What the program answers where this allocation fails, and perhaps all behind it, and how many it asked for."""
+    env = {"LD_PRELOAD": library, "FAILING": str(failing), "MADE": os.path.join(folder, "made")}
+    if with_rest:
+        env["WITH_REST"] = "1"
+    done = subprocess.run([program, *call.words], cwd=call.folder, env=env, stdin=subprocess.DEVNULL, capture_output=True, check=False)
+    with open(env["MADE"], encoding="utf-8") as file:
         return (done.stdout, done.stderr, done.returncode), int(file.read())
 
 
-def check_case(program, case, folder, library):
-    """Fails each allocation of a call, up to the first that it doesn't make; answers how many it makes."""
-    words, wanting = case.calls[0], 0
-    right = answer_of(program, words, case.folder) if case.rows else case.wanted
-    for failing in itertools.count(1):
-        got, made = answer(program, words, folder, library, failing)
-        if made < failing:
-            break
-        wanting += got == WANTING
-        if got not in (right, WANTING):
-            break
-    if got != right or not wanting:
-        print(f"{case.name}: with allocation {failing} failing {got!r}; status 3 before it {wanting} times")
-        sys.exit(1)
-    return made
+def try_share(program, library, call, with_rest, share):
+    """Fails a share of the allocations of a call, up to the first that it doesn't ask for: then it must answer right."""
+    wanting = failed = 0
+    with tempfile.TemporaryDirectory() as folder:
+        for failing in itertools.count(1 + share, SHARES):
+            got, made = answer(program, call, folder, library, failing, with_rest)
+            if got not in (call.right, WANTING) or made < failing and got != call.right:
+                behind = " and all behind it" * with_rest
+                return Share(failed, wanting, f"{call.name}: with allocation {failing}{behind} failing {shown(got)}")
+            if made < failing:
+                return Share(failed, wanting, "")
+            failed += 1
+            wanting += got == WANTING
 
 
 def main():
@@ -136,11 +180,18 @@ def main():
     if shutil.which("cc") is None:
         print("want of memory isn't tested: there is no cc")
         return
-    with tempfile.TemporaryDirectory() as folder:
-        library = build_library(folder)
-        found = [case_of(name) for name in CASES]
-        count = sum(check_case(program, case, laid_out(folder, case), library) for case in found)
-    print(f"{count} allocations failed in turn: each time the program said so, or answered all the same")
+    with tempfile.TemporaryDirectory() as folder, concurrent.futures.ThreadPoolExecutor(os.cpu_count()) as pool:
+        trying = partial(try_share, program, build_library(folder))
+        tried = list(itertools.product(calls_of(program, folder), (False, True), range(SHARES)))
+        found = list(pool.map(trying, *zip(*tried)))
+    said = [share.difference for share in found if share.difference]
+    for (call, with_rest), shares in itertools.groupby(zip(tried, found), lambda pair: pair[0][:2]):
+        if not any(share.wanting for _, share in shares):
+            said.append(f"{call.name}: never status 3" + " with all behind an allocation failing" * with_rest)
+    for line in said[:SHOWN]:
+        print(line)
+    print(f"{sum(share.failed for share in found)} times memory was refused: {len(said)} times the program neither said so nor answered all the same")
+    sys.exit(bool(said))
 
 
 if __name__ == "__main__":
