@@ -61,16 +61,20 @@ is_so (Some b) = b
 abbrev pub is_judged : Facts → ℕ → Bool
 is_judged f i = is_so (slice_get f.judged.items i)
 
--- whether the item is known with all that it mentions, by its number and by a name, which means the first item of it
-abbrev pub settled_at : Facts → ℕ → Bool
-settled_at f i = is_so (slice_get f.settled.items i)
-
-abbrev pub is_settled : Facts → List ℕ → Bool
-is_settled f name = is_so (and_then (item_number name (text_of f).items) (slice_get f.settled.items))
-
 -- whether the item reaches itself
 abbrev pub loops : Facts → ℕ → Bool
 loops f i = is_so (slice_get f.reaching.loops.items i)
+
+-- whether it is noted that the item is judged, and so is all that it mentions, directly or not, but for what reaches itself
+abbrev pub is_noted_settled : Facts → ℕ → Bool
+is_noted_settled f i = is_so (slice_get f.settled.items i)
+
+-- whether nothing more is to be known of the item, by its number and by a name, which means the first item of it: of what reaches itself nothing is
+abbrev pub settled_at : Facts → ℕ → Bool
+settled_at f i = loops f i || is_noted_settled f i
+
+abbrev pub is_settled : Facts → List ℕ → Bool
+is_settled f name = is_so (option_map (settled_at f) (item_number name (text_of f).items))
 
 abbrev pub same_group : Option ℕ → Option ℕ → Bool
 same_group (Some a) (Some b) = a == b
@@ -169,8 +173,8 @@ pub record FactsHold (f : Facts) (later : WalkShown) (known : GlobalEnv) : Type 
   pub done : (n : ℕ) (sums : Sums) → done_at f n ≡ Some sums → IsSum known (instance_at (item_names f) later.met n) sums
   pub foreign : (n : ℕ) (k : ForeignKey) (there : ForeignSeen) → slice_get later.asked n ≡ Some k → foreign_at f n ≡ Some there
       → IsForeign (item_names f) known later k there
-  -- of items that are known with all that they mention: what mentions such items alone has by the values that are kept the value that it has by
-  -- what is known
+  -- of items of which nothing more is to be known, nor of what they mention: what mentions such items alone has by what is kept the value that it has
+  -- by what is known
   pub kept : AreKeptAlike known (values_kept f.kept) (is_settled f)
   pub values : (kept : KeptValues) (P : List ℕ → Bool) (bound : List Given) (e : Expr) → AreKeptAlike known kept P → list_all P (names_mentioned known.whole (mentioned e [])) ≡ true → MentionNoMark (mentioned e [])
       → value_of e (record { items = kept_within kept (text_of f) (length (text_of f).items); bound = bound }) ≡ value_of e (record { items = known.items; bound = bound })

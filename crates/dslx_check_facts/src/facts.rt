@@ -63,7 +63,7 @@ pub struct Facts<'a> {
     pub reaching: Reaching,
     /// Whether an item that is no function and no proc is judged.
     pub judged: Vec<bool>,
-    /// Whether an item is known with all that it mentions.
+    /// Whether an item is judged, and so is all that it mentions, directly or not, but for what reaches itself.
     pub settled: Vec<bool>,
     /// The type that an item names.
     pub named_types: Vec<Option<TypeId>>,
@@ -91,7 +91,7 @@ impl<'a> Facts<'a> {
         let value_types = nothing_each(alloc, count)?;
         let items = ItemTable::new(alloc, text)?;
         let reaching = reaching_of(alloc, &items)?;
-        let kept = nothing_kept(alloc, items)?;
+        let kept = nothing_kept(alloc, items, reaching.loops.as_slice())?;
         Ok(Facts {
             alloc,
             kept,
@@ -106,19 +106,34 @@ impl<'a> Facts<'a> {
     }
 }
 
-/// Where nothing is known of these items.
-fn nothing_kept<'a>(alloc: Global, items: ItemTable<'a>) -> Result<Kept<'a>, AllocError>
+/// Where nothing is known of these items. Those that reach themselves are hidden.
+fn nothing_kept<'a>(
+    alloc: Global,
+    items: ItemTable<'a>,
+    loops: &[bool],
+) -> Result<Kept<'a>, AllocError>
     ensures items { IfOk result (λ kept. kept.items ≡ items.entry) }
+    ensures hidden { IfOk result (λ kept. kept.hidden.items ≡ loops.now) }
     ensures nothing { IfOk result IsNothingKept }
 {
     let count = items.len() as usize;
     let constants = nothing_each(alloc, count)?;
     let members = no_members(alloc, count)?;
+    let hidden = copy_flags(alloc, loops)?;
     Ok(Kept {
         items,
         constants,
         members,
+        hidden,
     })
+}
+
+fn copy_flags(alloc: Global, flags: &[bool]) -> Result<Vec<bool>, AllocError>
+    ensures { IfOk result (λ copy. copy.items ≡ flags.now) }
+{
+    let mut copy = Vec::new(alloc);
+    copy.extend_from_slice(flags)?;
+    Ok(copy)
 }
 
 /// So many places, in none of which something stands.

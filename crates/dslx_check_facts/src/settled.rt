@@ -1,11 +1,11 @@
-//! Items that are known with all that they mention.
+//! Items of which nothing more is to be known, nor of what they mention.
 
 ghost use Rattle.std.specs.Prelude.{◌≡◌, [], Some, true, OnOk};
 ghost use Rattle.std.specs.List.{AllByRecursion, list_all};
 ghost use Rattle.dslx_meaning.specs.Rules.Mentions.{AsEnum, AsFunction, AsPattern, AsProc, AsStruct, AsType, AsValue, is_of_use as the_use, mentioned, names_mentioned};
 ghost use Rattle.dslx_meaning.specs.Rules.Namesakes.{told_apart};
 ghost use Rattle.dslx_check_items.specs.Shown.{mention_shown, use_shown};
-ghost use Rattle.dslx_check_facts.specs.Known.{is_settled, settled_at, text_of};
+ghost use Rattle.dslx_check_facts.specs.Known.{is_noted_settled, is_settled, settled_at, text_of};
 ghost use Rattle.dslx_check_facts.specs.Names.{MentionNoMark};
 ghost use Rattle.dslx_check_facts.specs.Walks.{OnlyMisses, shown};
 ghost use Rattle.dslx_check_facts.specs.Inner.Settled.{mention_settles};
@@ -20,9 +20,15 @@ use dslx_tree::{Definition, Expr};
 use std::alloc::AllocError;
 
 impl<'a> Facts<'a> {
-    /// Whether the item is known with all that it mentions.
+    /// Whether nothing more is to be known of the item, nor of what it mentions. Of what reaches itself nothing is.
     pub fn is_settled(&self, item: u32) -> bool
         ensures { result ≡ settled_at self.now item }
+    {
+        self.is_looping(item) || self.is_noted_settled(item)
+    }
+
+    fn is_noted_settled(&self, item: u32) -> bool
+        ensures { result ≡ is_noted_settled self.now item }
     {
         match self.settled.get(item as usize) {
             Some(settled) => *settled,
@@ -41,8 +47,9 @@ impl<'a> Facts<'a> {
     }
 }
 
-/// Asks for each item that an expression mentions to be known with all that it mentions: notes those that aren't judged. Where one is judged, or reaches
-/// itself, and isn't known so, it gives up as for want of memory; in a text without faults there is none. It takes time as the expression is long.
+/// Asks for each item that an expression mentions to be judged, with all that it mentions: notes those that aren't, but for what reaches itself. An item is
+/// judged behind all that it mentions, so none is judged and not known so; were there one, it would give up as for want of memory. It takes time as the
+/// expression is long.
 pub fn ask_settled(f: &Facts, w: &mut Walk, e: &Expr) -> Result<(), AllocError>
     ensures misses { OnOk result (OnlyMisses (shown w.old) (shown w.new)) }
     ensures settled { OnOk result ((shown w.new).missing ≡ [] → list_all (is_settled f.now) (names_mentioned (told_apart (text_of f.now)) (mentioned e.now [])) ≡ true) }
@@ -82,13 +89,13 @@ fn ask_item(f: &Facts, w: &mut Walk, item: u32) -> Result<(), AllocError>
     ensures misses { OnOk result (OnlyMisses (shown w.old) (shown w.new)) }
     ensures missing { OnOk result (¬ ((shown w.new).missing ≡ [])) }
 {
-    if is_judged_now(f, item) || f.is_looping(item) {
+    if is_judged_now(f, item) {
         return Err(AllocError);
     }
     w.need(Need::Item(item))
 }
 
-/// It is no item of the kind that the use is of, or one that is known with all that it mentions.
+/// It is no item of the kind that the use is of, or one of which nothing more is to be known.
 fn is_one_settled(f: &Facts, mention: &Mention<'_>) -> bool
     ensures { result ≡ mention_settles f.now (mention_shown mention.now) }
 {

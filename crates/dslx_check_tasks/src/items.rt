@@ -41,7 +41,7 @@ impl<'a> Work<'a> {
         }
     }
 
-    /// Whether a function or a proc mentions items that are to be judged before it. No walk over the text of an instance need ask for all of them.
+    /// Whether it mentions items that are to be judged before it: constants that mention it are evaluated over all of them.
     fn waits(&mut self, item: u32) -> Result<bool, AllocError>
         ensures goes { OnOk result (WorkGoesOn self.old self.new) }
         ensures rest { OnOk result (self.new ≡ record self.old { walk = self.new.walk }) }
@@ -84,25 +84,13 @@ impl<'a> Work<'a> {
     }
 }
 
-fn has_instances(f: &Facts, item: u32) -> bool {
-    match definition(f, item) {
-        Some(Definition::Function(_)) => true,
-        Some(Definition::Proc(_)) => true,
-        _ => false,
-    }
-}
-
-/// Notes the items that a function or a proc mentions and that aren't judged, but for those that reach themselves.
+/// Notes the items that an item mentions and that aren't judged, but for those that reach themselves.
 fn miss_mentioned(f: &Facts, w: &mut Walk, item: u32) -> Result<(), AllocError>
     ensures { OnOk result (OnlyMisses (shown w.old) (shown w.new)) }
 {
-    if has_instances(f, item) {
-        match f.reaching.needs.get(item as usize) {
-            None => Ok(()),
-            Some(needs) => miss_all(f, w, needs.as_slice()),
-        }
-    } else {
-        Ok(())
+    match f.reaching.needs.get(item as usize) {
+        None => Ok(()),
+        Some(needs) => miss_all(f, w, needs.as_slice()),
     }
 }
 

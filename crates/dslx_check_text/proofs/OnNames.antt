@@ -151,5 +151,6 @@ known_by_names text reaching distinct reach are kinds types structs constants me
       no_struct = λ i e. structs (told_apart text) (name_in text i) (loops i e) size;
       no_constant = λ i e. constants (told_apart text) (name_in text i) (loops i e) size;
       no_member = λ i name e. members (told_apart text) (name_in text i) (loops i e) size name;
+      reaches = λ i e. ap (λ m. item_reaches m (name_in text i) (name_in text i)) kinds.whole ∙ loops i e;
       free = λ i e. ap (λ m. item_reaches m (name_in text i) (name_in text i)) kinds.whole ∙ not_looping text reaching reach are i e;
     }

@@ -32,4 +32,5 @@ pub record IsTextByNames (text : Module) (reaching : Reaching) (known : GlobalEn
   pub no_struct : (i : ℕ) → loops_by reaching i ≡ true → known.items.struct_named (name_in text i) ≡ None
   pub no_constant : (i : ℕ) → loops_by reaching i ≡ true → known.items.constant (name_in text i) ≡ None
   pub no_member : (i : ℕ) (name : List ℕ) → loops_by reaching i ≡ true → known.items.member (name_in text i) name ≡ None
+  pub reaches : (i : ℕ) → loops_by reaching i ≡ true → item_reaches known.whole (name_in text i) (name_in text i) ≡ true
   pub free : (i : ℕ) → loops_by reaching i ≡ false → item_reaches known.whole (name_in text i) (name_in text i) ≡ false

@@ -15,7 +15,7 @@ ghost use Rattle.dslx_check_facts.specs.Names.{HasNoMarks, MentionNoMark};
 
 /// In any text, also one with faults: where an expression mentions only items that are kept, with all that they mention, it has the value by
 /// the text and what is kept of it that it has by what is known of the text, whatever is bound around it, and whether it breaks rules or
-/// not. Of a type that is known its text is evaluated, of a function its body, so that neither may reach itself.
+/// not. Of a type that is known its text is evaluated, of a function its body; what reaches itself is hidden, and so are types that are refused.
 pub fn kept_values_are_known()
     ensures { (text : Module) → HasNoMarks text → (kept : KeptValues) (P : List ℕ → Bool) → AreKeptAlike (globals_of (told_apart text)) kept P
         → (bound : List Given) (e : Expr) → list_all P (names_mentioned (globals_of (told_apart text)).whole (mentioned e [])) ≡ true → MentionNoMark (mentioned e [])

@@ -1,5 +1,5 @@
 -- What is known goes on to be so, and what is learnt is known.
-use Rattle.std.proofs.Common.{◌≡◌, ◌≢◌, ◌∙◌, ◌==◌, ℕ, Bool, true, false, List, [], Option, Some, None, slice_get, refl, sym, ap, subst}
+use Rattle.std.proofs.Common.{◌≡◌, ◌≢◌, ◌∙◌, ◌==◌, ◌&&◌, ◌||◌, ℕ, Bool, true, false, not, List, [], Option, Some, None, is_some, slice_get, refl, sym, ap, subst}
 use mathlib.Core.Bool.{true≢false}
 use Rattle.std.proofs.lemmas.Bool.Decides.{Decides-eqb}
 use Rattle.std.proofs.lemmas.Option.{none-some, same_Some}
@@ -10,6 +10,7 @@ use Rattle.dslx_meaning.specs.Items.{as_enum, as_struct}
 use Rattle.dslx_meaning.specs.Lists.{and_then}
 use Rattle.dslx_meaning.specs.Values.{type_of_value}
 use Rattle.dslx_meaning.specs.Rules.TypeEnvs.{GlobalEnv}
+use Rattle.dslx_const_tasks.specs.Values.{hidden_at}
 use Rattle.dslx_check_rules.specs.declared.table.row.TypeRow.{TypeRow}
 use Rattle.dslx_check_rules.specs.declared.table.row.TypeRow.TheVariants as row
 use Rattle.dslx_check_rules.specs.Interned.{HasRowIf, is_item_row, type_if}
@@ -18,7 +19,8 @@ use Rattle.dslx_check_facts.specs.declared.asked.ForeignKey.{ForeignKey}
 use Rattle.dslx_check_facts.specs.declared.facts.Facts.{Facts}
 use Rattle.dslx_check_facts.specs.declared.facts.ForeignSeen.{ForeignSeen}
 use Rattle.dslx_check_facts.specs.declared.facts.Sums.{Sums}
-use Rattle.dslx_check_facts.specs.Known.{FactsHold, HasKnownRows, IsSum, at_place, done_at, foreign_at, is_judged, is_so, item_at, item_names, member_at, member_number, named_type_at, text_of, value_type_at}
+use Rattle.dslx_check_facts.specs.Known.{FactsHold, HasKnownRows, IsSum, at_place, done_at, foreign_at, is_judged, is_noted_settled, is_so, item_at, item_names, loops, member_at, member_number, named_type_at, names_type, settled_at, text_of, value_type_at}
+use Rattle.dslx_check_facts.specs.Names.{definition_at}
 use Rattle.dslx_check_facts.specs.Nothing.{IsNothingKnown}
 use Rattle.dslx_check_facts.specs.Typings.{HasForeignRows, IsForeign}
 use Rattle.dslx_check_facts.specs.Walks.{HasTables, WalkGrows, WalkShown, instance_at, instance_or_none}
@@ -28,10 +30,10 @@ use Rattle.dslx_check_declarations.specs.Items.{HasNoRow, ItemGrows, is_row_of}
 use Rattle.dslx_check_declarations.specs.declared.items.ItemSeen.{ItemSeen}
 use Rattle.dslx_check_declarations.proofs.Lemmas.Items.{no_row_stays}
 use Rattle.dslx_check_work.specs.Learnt.{IsDoneAs, IsJudgedItem, IsJudgedPart, LearnsInstance, LearnsItem, LearnsPart, NotesSettled, PutsItem}
-use Rattle.dslx_check_work.specs.Settling.{AreSettled}
+use Rattle.dslx_check_work.specs.Settling.{AreSettled, is_to_hide}
 use Rattle.dslx_check_work.specs.Tables.{KnowsBy, TablesHold}
 use Rattle.dslx_check_work.specs.Text.{IsTextEnv}
-use Rattle.dslx_check_work.proofs.OnSettled.{are_kept, notes_settled}
+use Rattle.dslx_check_work.proofs.OnSettled.{are_kept, notes_settled, or_other}
 use Rattle.dslx_check_work.proofs.OnPlaces.{by_place, put_else, put_here, there_else, there_here}
 
 -- ---- a walk that goes on
@@ -50,7 +52,7 @@ known_stays f old new known g k = record {
 -- what is so if it is what was there
 abbrev pub learnt : Facts → Facts → Facts
 learnt old new = record old {
-  kept = record old.kept { constants = new.kept.constants; members = new.kept.members };
+  kept = record old.kept { constants = new.kept.constants; members = new.kept.members; hidden = new.kept.hidden };
   judged = new.judged;
   named_types = new.named_types;
   value_types = new.value_types;
@@ -159,12 +161,19 @@ module _ (old new : Facts) (before after : WalkShown) (known : GlobalEnv) (item 
   still_judged : (j : ℕ) → is_judged old j ≡ true → is_judged now j ≡ true
   still_judged j = by_place (λ (j : ℕ). is_judged old j ≡ true → is_judged now j ≡ true) item j (λ e. is_judged_now) (λ ne e. ap is_so (put_else l.judged j ne) ∙ e)
 
-  item_settled : AreSettled now known
+  item_settled : AreSettled now
   item_settled = record {
     needs = k.settled.needs;
-    free = k.settled.free;
-    judged = λ j e. still_judged j (k.settled.judged j e);
-    types = k.settled.types;
+    judged = λ j free e. still_judged j (k.settled.judged j free e);
+    hides = λ j. by_place (λ (j : ℕ). is_judged now j ≡ true → hidden_at now.kept j ≡ is_to_hide now j (named_type_at now j)) item j
+        (λ e. ap is_so (put_here l.hidden) ∙ ap (is_to_hide old item) (sym named_here))
+        (λ ne e. ap is_so (put_else l.hidden j ne) ∙ k.settled.hides j (was_judged j ne e) ∙ ap (is_to_hide old j) (sym (named_else j ne)));
+    hides_loops = λ j. by_place (λ (j : ℕ). loops old j ≡ true → hidden_at now.kept j ≡ true) item j
+        (λ e. ap is_so (put_here l.hidden) ∙ ap (λ b. b || (names_type (definition_at (text_of old).items item) && not (is_some seen.named_type))) e)
+        (λ ne e. ap is_so (put_else l.hidden j ne) ∙ k.settled.hides_loops j e);
+    no_members = λ j n. by_place (λ (j : ℕ). is_judged now j ≡ false → member_at now j n ≡ None) item j
+        (λ e. absurd (true≢false (sym is_judged_now ∙ e)))
+        (λ ne e. ap (λ o. and_then o (λ ms. at_place ms.items n)) (put_else l.members j ne) ∙ k.settled.no_members j n (ap is_so (sym (put_else l.judged j ne)) ∙ e));
     unjudged = λ j. by_place (λ (j : ℕ). is_judged now j ≡ false → at_place new.kept.constants.items j ≡ None) item j
         (λ e. absurd (true≢false (sym is_judged_now ∙ e)))
         (λ ne e. ap (λ o. and_then o (λ a. a)) (put_else l.value j ne) ∙ k.settled.unjudged j (ap is_so (sym (put_else l.judged j ne)) ∙ e));
@@ -196,7 +205,7 @@ module _ (old new : Facts) (walk : WalkShown) (known : GlobalEnv) (item : ℕ) (
     tables = noted_tables;
     rows = record { named = k.rows.named; values = k.rows.values; foreign = k.rows.foreign };
     fresh = k.fresh;
-    settled = notes_settled old new walk known item (k.tables walk (tables_refl walk)) k.settled n;
+    settled = notes_settled old new item k.settled n;
   })
 
 pub item_known : (old new : Facts) (before after : WalkShown) (known : GlobalEnv) (item : ℕ) (seen : ItemSeen) → KnowsBy old before known → ItemGrows item before after
@@ -232,7 +241,14 @@ module _ (old new : Facts) (walk : WalkShown) (known : GlobalEnv) (instance : �
     tables = instance_tables;
     rows = record { named = k.rows.named; values = k.rows.values; foreign = k.rows.foreign };
     fresh = k.fresh;
-    settled = record { needs = k.settled.needs; free = k.settled.free; judged = k.settled.judged; types = k.settled.types; unjudged = k.settled.unjudged };
+    settled = record {
+      needs = k.settled.needs;
+      judged = k.settled.judged;
+      hides = k.settled.hides;
+      hides_loops = k.settled.hides_loops;
+      unjudged = k.settled.unjudged;
+      no_members = k.settled.no_members;
+    };
   })
 
 -- ---- a part of a declaration
@@ -271,7 +287,14 @@ module _ (old new : Facts) (walk : WalkShown) (known : GlobalEnv) (number : ℕ)
     tables = part_tables;
     rows = part_rows;
     fresh = k.fresh;
-    settled = record { needs = k.settled.needs; free = k.settled.free; judged = k.settled.judged; types = k.settled.types; unjudged = k.settled.unjudged };
+    settled = record {
+      needs = k.settled.needs;
+      judged = k.settled.judged;
+      hides = k.settled.hides;
+      hides_loops = k.settled.hides_loops;
+      unjudged = k.settled.unjudged;
+      no_members = k.settled.no_members;
+    };
   })
 
 -- ---- nothing
@@ -298,13 +321,17 @@ nothing_known f walk known n text empty = record {
   };
   fresh = λ item e. record { none = λ k r at. absurd (none-some r (ap (λ rows. slice_get rows k) (sym empty) ∙ at)) };
   settled = record {
-    needs = λ i j e need. absurd (true≢false (sym e ∙ n.settled i));
-    free = λ i e. absurd (true≢false (sym e ∙ n.settled i));
-    judged = λ i e. absurd (true≢false (sym e ∙ n.settled i));
-    types = λ i x e at names. absurd (true≢false (sym e ∙ n.settled i));
+    needs = λ i j free e need. absurd (nothing_settled i free e);
+    judged = λ i free e. absurd (nothing_settled i free e);
+    hides = λ i e. absurd (true≢false (sym e ∙ n.judged i));
+    hides_loops = λ i e. ap (λ flags. is_so (slice_get flags i)) n.hidden ∙ e;
     unjudged = λ i e. n.kept.constants i;
+    no_members = λ i k e. n.kept.members i k;
   };
 }
+  where
+    nothing_settled : (i : ℕ) → loops f i ≡ false → settled_at f i ≡ true → ⊥
+    nothing_settled i free e = true≢false (sym (or_other (loops f i) (is_noted_settled f i) free e) ∙ n.settled i)
 
 -- ---- what is so of what is known
 

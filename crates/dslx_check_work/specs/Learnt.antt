@@ -13,11 +13,11 @@ use Rattle.dslx_check_facts.specs.declared.facts.Facts.{Facts}
 use Rattle.dslx_check_facts.specs.declared.facts.ForeignSeen.{ForeignSeen}
 use Rattle.dslx_check_facts.specs.declared.facts.Sums.{Sums}
 use Rattle.dslx_check_facts.specs.declared.instances.InstanceKey.{InstanceKey}
-use Rattle.dslx_check_facts.specs.Known.{IsSum, at_place, item_at, item_names, member_number, settled_at}
+use Rattle.dslx_check_facts.specs.Known.{IsSum, at_place, is_noted_settled, item_at, item_names, member_number}
 use Rattle.dslx_check_facts.specs.Typings.{HasForeignRows, IsForeign}
 use Rattle.dslx_check_facts.specs.Walks.{HasTables, WalkShown, instance_at}
 use Rattle.dslx_check_declarations.specs.declared.items.ItemSeen.{ItemSeen}
-use Rattle.dslx_check_work.specs.Settling.{may_settle}
+use Rattle.dslx_check_work.specs.Settling.{is_to_hide, may_settle}
 
 -- ---- places
 
@@ -38,9 +38,10 @@ pub record PutsItem (old new : Facts) (item : ℕ) (seen : ItemSeen) : Type 0 wh
   pub value_type : PutsAtPlace old.value_types.items new.value_types.items item seen.value_type
   pub value : PutsAtPlace old.kept.constants.items new.kept.constants.items item seen.value
   pub members : PutsAtPlace old.kept.members.items new.kept.members.items item seen.members
+  pub hidden : PutsAtPlace old.kept.hidden.items new.kept.hidden.items item (is_to_hide old item seen.named_type)
   pub judged : PutsAtPlace old.judged.items new.judged.items item true
   pub rest : new ≡ record old {
-    kept = record old.kept { constants = new.kept.constants; members = new.kept.members };
+    kept = record old.kept { constants = new.kept.constants; members = new.kept.members; hidden = new.kept.hidden };
     judged = new.judged;
     named_types = new.named_types;
     value_types = new.value_types;
@@ -51,9 +52,9 @@ pub record LearnsInstance (old new : Facts) (instance : ℕ) (sums : Sums) : Typ
   pub done : PutsThere old.done.items new.done.items instance sums
   pub rest : new ≡ record old { done = new.done }
 
--- that the item is known with all that it mentions is noted, if it is so
+-- that the item is judged with all that it mentions is noted, if it is so
 pub record NotesSettled (old new : Facts) (item : ℕ) : Type 0 where
-  pub flags : (j : ℕ) → settled_at new j ≡ (settled_at old j || (j == item && may_settle old item))
+  pub flags : (j : ℕ) → is_noted_settled new j ≡ (is_noted_settled old j || (j == item && may_settle old item))
   pub rest : new ≡ record old { settled = new.settled }
 
 -- an item is judged

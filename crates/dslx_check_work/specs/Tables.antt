@@ -38,5 +38,5 @@ pub record KnowsBy (f : Facts) (walk : WalkShown) (known : GlobalEnv) : Type 0 w
   pub text : IsTextEnv (text_of f) f.reaching known
   pub tables : (later : WalkShown) → HasTables walk later → TablesHold f later known
   pub rows : HasKnownRows walk.rows f
-  pub settled : AreSettled f known
+  pub settled : AreSettled f
   pub fresh : (item : ℕ) → is_judged f item ≡ false → HasNoRow walk.rows item

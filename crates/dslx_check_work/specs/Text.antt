@@ -54,6 +54,7 @@ pub record IsTextEnv (text : Module) (reaching : Reaching) (known : GlobalEnv) :
   pub no_constant : (i : ℕ) → loops_by reaching i ≡ true → known.items.constant (name_in text i) ≡ None
   pub no_member : (i : ℕ) (name : List ℕ) → loops_by reaching i ≡ true → known.items.member (name_in text i) name ≡ None
   pub plain : HasNoMarks text
+  pub reaches : (i : ℕ) → loops_by reaching i ≡ true → item_reaches known.whole (name_in text i) (name_in text i) ≡ true
   pub free : (i : ℕ) → loops_by reaching i ≡ false → item_reaches known.whole (name_in text i) (name_in text i) ≡ false
   pub values : (kept : KeptValues) (P : List ℕ → Bool) (bound : List Given) (e : Expr) → AreKeptAlike known kept P → list_all P (names_mentioned known.whole (mentioned e [])) ≡ true → MentionNoMark (mentioned e [])
       → value_of e (record { items = kept_within kept text (length text.items); bound = bound }) ≡ value_of e (record { items = known.items; bound = bound })

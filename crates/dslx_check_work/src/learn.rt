@@ -4,7 +4,7 @@ ghost use Rattle.std.specs.Prelude.{◌≡◌, OnOk};
 ghost use Rattle.dslx_check_work.specs.Learnt.{LearnsInstance, LearnsItem, LearnsPart, PutsItem};
 
 use crate::places::{put, put_there};
-use crate::settling::note_settled;
+use crate::settling::{is_to_hide, note_settled};
 use dslx_check_declarations::ItemSeen;
 use dslx_check_facts::{Facts, ForeignSeen, Sums};
 use std::alloc::AllocError;
@@ -20,10 +20,12 @@ pub fn learn_item(f: &mut Facts, item: u32, seen: ItemSeen) -> Result<(), AllocE
 fn put_item(f: &mut Facts, item: u32, seen: ItemSeen) -> Result<(), AllocError>
     ensures { OnOk result (PutsItem f.old f.new item seen) }
 {
+    let hides = is_to_hide(f, item, seen.named_type);
     put(&mut f.named_types, item, seen.named_type)?;
     put(&mut f.value_types, item, seen.value_type)?;
     put(&mut f.kept.constants, item, seen.value)?;
     put(&mut f.kept.members, item, seen.members)?;
+    put(&mut f.kept.hidden, item, hides)?;
     put(&mut f.judged, item, true)
 }
 

@@ -1,19 +1,20 @@
 //! Which items are known with all that they mention.
 
-ghost use Rattle.std.specs.Prelude.{◌≡◌, Some, OnOk, is_some};
+ghost use Rattle.std.specs.Prelude.{◌≡◌, Some, OnOk};
 ghost use Rattle.std.specs.List.{list_all};
 ghost use Rattle.topo_order.specs.Needs.{needs_of};
-ghost use Rattle.dslx_check_facts.specs.Known.{is_judged as is_judged_item, named_type_at, names_type, settled_at, text_of};
+ghost use Rattle.dslx_check_facts.specs.Known.{is_judged as is_judged_item, names_type, settled_at, text_of};
 ghost use Rattle.dslx_check_facts.specs.Names.{definition_at};
 ghost use Rattle.dslx_check_work.specs.Learnt.{NotesSettled};
-ghost use Rattle.dslx_check_work.specs.Settling.{is_known_part, is_there, may_settle as the_test};
+ghost use Rattle.dslx_check_work.specs.Settling.{is_to_hide as is_hidden, may_settle as the_test};
 
 use crate::places::put;
 use dslx_check_facts::Facts;
+use dslx_check_rules::TypeId;
 use dslx_tree::Definition;
 use std::alloc::AllocError;
 
-/// Notes that an item is known with all that it mentions, if it is.
+/// Notes that an item is judged with all that it mentions, if it is.
 #[tactic(auto, using(crate::proofs::OnSettled::flag_left, crate::proofs::OnSettled::flag_set))]
 pub(crate) fn note_settled(f: &mut Facts, item: u32) -> Result<(), AllocError>
     ensures { OnOk result (NotesSettled f.old f.new item) }
@@ -25,15 +26,11 @@ pub(crate) fn note_settled(f: &mut Facts, item: u32) -> Result<(), AllocError>
     }
 }
 
-/// It doesn't reach itself, all that it mentions is known so, and it is known itself.
+/// It is judged, and of what it mentions nothing more is to be known.
 fn may_settle(f: &Facts, item: u32) -> bool
     ensures { result ≡ the_test f.now item }
 {
-    if f.is_looping(item) {
-        false
-    } else {
-        needs_settled(f, item) && is_known(f, item)
-    }
+    needs_settled(f, item) && is_judged(f, item)
 }
 
 fn needs_settled(f: &Facts, item: u32) -> bool
@@ -51,22 +48,27 @@ fn all_settled(f: &Facts, items: &[u32]) -> bool
     items.iter().all(|item| f.is_settled(*item))
 }
 
-fn is_known(f: &Facts, item: u32) -> bool
-    ensures { result ≡ is_there f.now item (definition_at (text_of f.now).items item) }
+fn is_judged(f: &Facts, item: u32) -> bool
+    ensures { result ≡ is_judged_item f.now item }
 {
-    if item < f.kept.items.len() {
-        let definition = f.kept.items.get(item);
-        is_part_known(f, item, definition)
-    } else {
-        false
+    match f.judged.get(item as usize) {
+        Some(judged) => *judged,
+        None => false,
     }
 }
 
-fn is_part_known(f: &Facts, item: u32, definition: &Definition) -> bool
-    ensures { result ≡ is_known_part f.now item definition.now }
+/// Whether the values of constants are to be found as if the item were not there: it reaches itself, or it is a type and is refused.
+pub(crate) fn is_to_hide(f: &Facts, item: u32, ty: Option<TypeId>) -> bool
+    ensures { result ≡ is_hidden f.now item ty }
 {
-    if is_judged(f, item) {
-        !is_type(definition) || has_type(f, item)
+    f.is_looping(item) || names_type_at(f, item) && !ty.is_some()
+}
+
+fn names_type_at(f: &Facts, item: u32) -> bool
+    ensures { result ≡ names_type (definition_at (text_of f.now).items item) }
+{
+    if item < f.kept.items.len() {
+        is_type(f.kept.items.get(item))
     } else {
         false
     }
@@ -79,24 +81,6 @@ fn is_type(definition: &Definition) -> bool
         Definition::Alias(_) => true,
         Definition::Struct(_) => true,
         Definition::Enum(_) => true,
-        _ => false,
-    }
-}
-
-fn is_judged(f: &Facts, item: u32) -> bool
-    ensures { result ≡ is_judged_item f.now item }
-{
-    match f.judged.get(item as usize) {
-        Some(judged) => *judged,
-        None => false,
-    }
-}
-
-fn has_type(f: &Facts, item: u32) -> bool
-    ensures { result ≡ is_some (named_type_at f.now item) }
-{
-    match f.named_types.get(item as usize) {
-        Some(Some(_)) => true,
         _ => false,
     }
 }

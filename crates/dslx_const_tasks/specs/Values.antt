@@ -1,5 +1,5 @@
 -- The values that are kept of the items of a text, by names.
-use Rattle.std.specs.Prelude.{ℕ, List, [], ◌∷◌, ◌+◌, Option, Some, None, slice_get, if◌then◌else◌}
+use Rattle.std.specs.Prelude.{ℕ, List, [], ◌∷◌, ◌+◌, Bool, false, Option, Some, None, slice_get, if◌then◌else◌}
 use Rattle.std.specs.Str.{bytes_eq}
 use Rattle.dslx_tree.specs.declared.item.Member.{Member}
 use Rattle.dslx_meaning.specs.Items.{as_enum, item_named}
@@ -34,5 +34,16 @@ member_kept kept e a =
     and_then (item_number e kept.items.text.now.items)
     (λ i. and_then (as_enum (item_named e kept.items.text.now.items)) (λ x. and_then (member_number a x.members) (member_at kept i)))
 
+abbrev pub is_so : Option Bool → Bool
+is_so None = false
+is_so (Some b) = b
+
+-- whether an item is hidden, by its number and by a name, which means the first item of it
+abbrev pub hidden_at : Kept → ℕ → Bool
+hidden_at kept i = is_so (slice_get kept.hidden.items i)
+
+abbrev pub hides_name : Kept → List ℕ → Bool
+hides_name kept name = is_so (and_then (item_number name kept.items.text.now.items) (slice_get kept.hidden.items))
+
 abbrev pub values_kept : Kept → KeptValues
-values_kept kept = record { constant = constant_kept kept; member = member_kept kept }
+values_kept kept = record { constant = constant_kept kept; member = member_kept kept; hides = hides_name kept }

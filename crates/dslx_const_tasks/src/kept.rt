@@ -3,7 +3,7 @@
 ghost use Rattle.std.specs.Prelude.{◌≡◌, IfOk, slice_get};
 ghost use Rattle.std.specs.Option.{option_copied};
 ghost use Rattle.dslx_meaning.specs.Lists.{and_then};
-ghost use Rattle.dslx_const_tasks.specs.Values.{at_place, constant_kept, member_at, member_from, member_kept, member_number};
+ghost use Rattle.dslx_const_tasks.specs.Values.{at_place, constant_kept, hidden_at, hides_name, member_at, member_from, member_kept, member_number};
 
 use base::texts::Name;
 use dslx_check_items::ItemTable;
@@ -13,14 +13,37 @@ use dslx_values::copy_value;
 use std::alloc::{AllocError, Global};
 
 /// The values of constants and of the members of enums, by the numbers of their items; none where an item has none, or isn't known.
+///
+/// Types that are refused, and what reaches itself, are hidden: such a type is none, and such a function has no value.
 #[derive(Drop)]
 pub struct Kept<'a> {
     pub items: ItemTable<'a>,
     pub constants: Vec<Option<DslxValue>>,
     pub members: Vec<Vec<Option<DslxValue>>>,
+    pub hidden: Vec<bool>,
 }
 
 impl<'a> Kept<'a> {
+    /// Whether the first item of a name is hidden.
+    pub fn hides(&self, name: &Name) -> bool
+        ensures { result ≡ hides_name self.now name.now }
+    {
+        match self.items.find(name) {
+            Some(item) => self.hides_item(item),
+            None => false,
+        }
+    }
+
+    /// Whether the item of a number is hidden.
+    pub fn hides_item(&self, item: u32) -> bool
+        ensures { result ≡ hidden_at self.now item }
+    {
+        match self.hidden.get(item as usize) {
+            Some(hidden) => *hidden,
+            None => false,
+        }
+    }
+
     /// The value of the constant of a name.
     pub fn constant(&self, name: &Name) -> Option<&DslxValue>
         ensures { option_copied result ≡ constant_kept self.now name.now }

@@ -1,4 +1,5 @@
 ghost use Rattle.std.specs.Prelude.{◌≡◌, ◌∷◌, [], OnOk};
+ghost use Rattle.dslx_names.specs.ConstMachine.Kept.{is_hidden};
 ghost use Rattle.dslx_names.specs.ConstMachine.States.{value_in, type_in, count_in_finding, finds_value, finds_type, finds_count, without_finding, doing};
 ghost use Rattle.dslx_names.specs.ConstMachine.Tasks.{ValueDen, FindsType, CountsBound, CountsSize};
 ghost use Rattle.dslx_const_tasks.specs.Plain.{shown, plain_task, plain_value_task, plain_list_task, plain_choice_task, plain_type_task, plain_call_task};
@@ -6,6 +7,7 @@ ghost use Rattle.dslx_const_tasks.specs.Plain.{shown, plain_task, plain_value_ta
 use crate::kept::Kept;
 use crate::task::{CallTask, ChoiceTask, Found, ListTask, Task, TypeTask, ValueTask};
 use base::stacks::Stack;
+use base::texts::Name;
 use dslx_meaning::{DslxType, DslxValue};
 use dslx_names::Scope;
 use dslx_tree::{Expr, Module, TypeExpr};
@@ -15,7 +17,7 @@ use std::alloc::{AllocError, Global};
 #[derive(Drop)]
 pub struct Machine<'a> {
     pub text: &'a Module,
-    /// The values of constants and members, where they are kept: then their texts aren't evaluated.
+    /// The values of constants and members, where they are kept: then their texts aren't evaluated, and what is hidden denotes nothing.
     pub kept: Option<&'a Kept<'a>>,
     /// What is still to be done, the next task on the top.
     pub tasks: Stack<Task<'a>>,
@@ -27,6 +29,16 @@ pub struct Machine<'a> {
 }
 
 impl<'a> Machine<'a> {
+    /// Whether a name is hidden: values are kept, and the item of that name is hidden there.
+    pub fn hides(&self, name: &Name) -> bool
+        ensures { result ≡ is_hidden (shown self.now).kept name.now }
+    {
+        match self.kept {
+            Some(kept) => kept.hides(name),
+            None => false,
+        }
+    }
+
     /// Takes what was found, if it is a value.
     pub fn take_value(&mut self) -> Option<DslxValue>
         ensures value { result ≡ value_in (shown self.old).found }

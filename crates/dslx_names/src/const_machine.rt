@@ -15,7 +15,7 @@ ghost use Rattle.dslx_names.specs.ConstMachine.Tasks.{CountsBound, CountsSize, V
 
 /// What the machine has found when nothing is left to be done, after however many steps, is what the definition says, or that
 /// there is none: the value of an expression, a written type, a size, or a bound of a slice. Where values of constants and members are
-/// kept, it is what the expression denotes where they have these.
+/// kept, it is what the expression denotes where they have these, and what is hidden denotes nothing.
 pub fn machine_finds_denotations()
     ensures value { (m : Module) (bound : List Given) (e : Expr) (n : ℕ) (f : Finding)
         → after n (begins m bound (ValueDen e)) ≡ Some f → value_in f ≡ value_of e (record { items = meanings_of m; bound = bound }) }

@@ -1,4 +1,4 @@
--- Mentions of items that are known with all that they mention.
+-- Mentions of items of which nothing more is to be known.
 use Rattle.std.specs.Prelude.{Bool, true, if◌then◌else◌}
 use Rattle.dslx_meaning.specs.Items.{item_named}
 use Rattle.dslx_meaning.specs.Rules.Mentions.{Mention, is_of_use}

@@ -123,6 +123,12 @@ module _ (m : Module) (name : List ℕ) where
         uses_settle m (2 * length m.items) next (omega arith) (omega arith) AsStruct name ∙ at_item (λ o. and_then (as_struct o) (λ s. (struct_seen K s).ty))
         ∙ struct_itself K (item_named name m.items) is_type_there
 
+  -- what reaches itself has no value
+  pub call_none : item_reaches K.whole name name ≡ true → (given operands : List DslxValue) → K.items.call name given operands ≡ None
+  call_none reaches given operands =
+      (uses_settle m (2 * length m.items) next (omega arith) (omega arith) AsFunction name).call given operands
+      ∙ ap (λ b. call_unless b (and_then (as_function (item_named name K.whole.items)) (λ f. call_of K.items f given operands))) reaches
+
   pub call_meant : item_reaches K.whole name name ≡ false → (given operands : List DslxValue) → K.items.call name given operands ≡ and_then (as_function (item_named name m.items)) (λ f. call_of K.items f given operands)
   call_meant free given operands =
       (uses_settle m (2 * length m.items) next (omega arith) (omega arith) AsFunction name).call given operands

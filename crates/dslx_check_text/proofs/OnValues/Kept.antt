@@ -18,10 +18,9 @@ use Rattle.dslx_meaning.specs.Rules.Mentions.{AsEnum, AsFunction, AsPattern, AsS
 use Rattle.dslx_meaning.specs.Rules.ModuleRules.{globals_of}
 use Rattle.dslx_meaning.specs.Rules.Namesakes.{told_apart, told_apart_behind}
 use Rattle.dslx_meaning.specs.Rules.TypeEnvs.{GlobalEnv}
-use Rattle.dslx_names.specs.ConstMachine.Kept.{KeptValues, kept_within}
+use Rattle.dslx_names.specs.ConstMachine.Kept.{KeptValues, kept_within, unless_hidden}
 use Rattle.dslx_core.specs.Typing.Laws.Agreement.{ItemMeansOne}
 use Rattle.dslx_core.specs.Typing.Laws.Ranks.{Ranked, is_above}
-use Rattle.dslx_core.specs.Typing.TypingRelations.Reached.{IsClosed}
 use Rattle.dslx_core.proofs.Lemmas.Typing.Denotation.{OfKinds, known_kinds}
 use Rattle.dslx_core.proofs.Lemmas.Typing.Depends.{reads_level}
 use Rattle.dslx_core.proofs.Lemmas.Typing.Laws.{Agreeing, agree_on, and_true, item_over, value_depends}
@@ -32,7 +31,7 @@ use Rattle.dslx_core.proofs.Lemmas.Typing.Typed.{none_some, same_some}
 use Rattle.dslx_check_facts.specs.Kept.{AreKeptAlike}
 use Rattle.dslx_check_facts.specs.Names.{HasNoMarks, IsPlainItem, IsUnmarked, MentionNoMark}
 use Rattle.dslx_check_facts.proofs.Lemmas.Firsts.{same_meaning}
-use Rattle.dslx_check_text.proofs.OnValues.Items.{call_meant, struct_meant, type_meant}
+use Rattle.dslx_check_text.proofs.OnValues.Items.{call_meant, call_none, struct_meant, type_meant}
 
 -- ---- items without marks
 
@@ -91,6 +90,11 @@ no_call x (Some (d.Constant c)) e ns vs = refl
 no_call x (Some (d.Enum n)) e ns vs = refl
 no_call x (Some (d.Proc p)) e ns vs = refl
 no_call x None e ns vs = refl
+
+-- what is nothing is nothing, whether it is hidden or not
+still_none : {A : Type 0} (b : Bool) (o : Option A) → o ≡ None → unless_hidden b o ≡ None
+still_none true o e = refl
+still_none false o e = e
 
 none_used : (u : Use) → is_of_use u None ≡ false
 none_used AsValue = refl
@@ -159,20 +163,20 @@ module _ (text : Module) (plain : HasNoMarks text) (kept : KeptValues) (P : List
 
   kept_kinds : (b : ℕ) → OfKinds M (Y b)
   kept_kinds zero = record {
-    types = λ name e. refl;
-    structs = λ name e. refl;
+    types = λ name e. still_none (kept.hides name) None refl;
+    structs = λ name e. still_none (kept.hides name) None refl;
     kind = λ name e. refl;
     constants = kept_none zero;
     members = λ name e member. member_none zero name member e;
-    calls = λ name e ns vs. refl;
+    calls = λ name e ns vs. still_none (kept.hides name) None refl;
   }
   kept_kinds (suc b) = record {
-    types = λ name e. no_type (Y b) (item_named name text.items) (lower_use AsType name e);
-    structs = λ name e. no_struct (Y b) (item_named name text.items) (lower_use AsStruct name e);
+    types = λ name e. still_none (kept.hides name) _ (no_type (Y b) (item_named name text.items) (lower_use AsType name e));
+    structs = λ name e. still_none (kept.hides name) _ (no_struct (Y b) (item_named name text.items) (lower_use AsStruct name e));
     kind = λ name e. no_constant_item (item_named name text.items) (lower_use AsPattern name e);
     constants = kept_none (suc b);
     members = λ name e member. member_none (suc b) name member e;
-    calls = λ name e ns vs. no_call (Y b) (item_named name text.items) (lower_use AsFunction name e) ns vs;
+    calls = λ name e ns vs. still_none (kept.hides name) _ (no_call (Y b) (item_named name text.items) (lower_use AsFunction name e) ns vs);
   }
 
   -- ---- mentions
@@ -195,53 +199,81 @@ module _ (text : Module) (plain : HasNoMarks text) (kept : KeptValues) (P : List
           )
       by_use false q passes each rest = rest each passes u.1
 
-  free : (name : List ℕ) → P name ≡ true → item_reaches M name name ≡ false
-  free name p = sym (at_whole (λ x. item_reaches x name name)) ∙ s.free name p
+  free : (name : List ℕ) → P name ≡ true → kept.hides name ≡ false → item_reaches M name name ≡ false
+  free name p seen = sym (at_whole (λ x. item_reaches x name name)) ∙ s.free name p seen
 
-  -- what an item mentions that is kept stands below it
-  above : (name next : List ℕ) → P name ≡ true → IsIn next (mentions_of M (item_named name M.items)) → is_above M name next ≡ true
-  above name next p one = by_back (item_reaches M next name) refl
+  -- what an item mentions that is kept and isn't hidden stands below it
+  above : (name next : List ℕ) → P name ≡ true → kept.hides name ≡ false → IsIn next (mentions_of M (item_named name M.items)) → is_above M name next ≡ true
+  above name next p seen one = by_back (item_reaches M next name) refl
     where
       there : item_reaches M name next ≡ true
       there = reaches_mentioned M name next one
 
       by_back : (b : Bool) → item_reaches M next name ≡ b → (item_reaches M name next && not b) ≡ true
-      by_back true q = absurd (true≢false (sym (reaches_on M name next name there q) ∙ free name p))
+      by_back true q = absurd (true≢false (sym (reaches_on M name next name there q) ∙ free name p seen))
       by_back false q = λ i. there i && true
 
-  closed : IsClosed P M
-  closed = subst (IsClosed P) (whole_is M N) s.closed
+  closed : (name : List ℕ) → P name ≡ true → kept.hides name ≡ false → list_all P (mentions_of M (item_named name M.items)) ≡ true
+  closed name p seen = sym (at_whole (λ x. list_all P (mentions_of x (item_named name x.items)))) ∙ s.closed name p seen
 
   -- ---- items
 
-  -- an item over what it mentions
-  item_kept : (b : ℕ) (name : List ℕ) → IsUnmarked name → P name ≡ true → ItemMeansOne (meanings_over text K.items) (meanings_over text (Y b)) name → ItemMeansOne K.items (Y (suc b)) name
-  item_kept b name u p over =
+  if_hidden : {A : Type 0} (name : List ℕ) (b : Bool) → kept.hides name ≡ b → (o : Option A) → unless_hidden b o ≡ unless_hidden (kept.hides name) o
+  if_hidden name b e o = ap (λ c. unless_hidden c o) (sym e)
+
+  -- an item that isn't hidden, over what it mentions
+  item_kept : (b : ℕ) (name : List ℕ) → IsUnmarked name → P name ≡ true → kept.hides name ≡ false → ItemMeansOne (meanings_over text K.items) (meanings_over text (Y b)) name → ItemMeansOne K.items (Y (suc b)) name
+  item_kept b name u p seen over =
       let same = same_item name u in
       record {
-        types = type_meant M name (s.types name p) ∙ ap (type_of_item K.items) same ∙ over.types;
-        structs = struct_meant M name (s.types name p) ∙ ap (λ o. and_then (as_struct o) (struct_type K.items)) same ∙ over.structs;
+        types = type_meant M name (s.types name p seen) ∙ ap (type_of_item K.items) same ∙ over.types ∙ if_hidden name false seen ((meanings_over text (Y b)).type_named name);
+        structs = struct_meant M name (s.types name p seen) ∙ ap (λ o. and_then (as_struct o) (struct_type K.items)) same ∙ over.structs ∙ if_hidden name false seen ((meanings_over text (Y b)).struct_named name);
         kind = (reads_level M N).kinds name ∙ ap is_constant_item same;
         constants = sym (s.constants name p);
         members = λ member. sym (s.members name member p);
-        calls = λ ns vs. call_meant M name (s.free name p) ns vs ∙ ap (λ o. and_then (as_function o) (λ f. call_of K.items f ns vs)) same ∙ over.calls ns vs;
+        calls = λ ns vs. call_meant M name (s.free name p seen) ns vs ∙ ap (λ o. and_then (as_function o) (λ f. call_of K.items f ns vs)) same ∙ over.calls ns vs
+            ∙ if_hidden name false seen ((meanings_over text (Y b)).call name ns vs);
       }
+
+  -- a function that is hidden has no value
+  hidden_call : (name : List ℕ) → P name ≡ true → kept.hides name ≡ true → (ns vs : List DslxValue) → K.items.call name ns vs ≡ None
+  hidden_call name p hidden ns vs = by (is_of_use AsFunction (item_named name M.items)) refl
+    where
+      by : (b : Bool) → is_of_use AsFunction (item_named name M.items) ≡ b → K.items.call name ns vs ≡ None
+      by true q = call_none M name (s.hidden_calls name p hidden (at_whole (λ x. is_of_use AsFunction (item_named name x.items)) ∙ q)) ns vs
+      by false q = (known_kinds M).calls name q ns vs
+
+  -- an item that is hidden, whatever it mentions
+  item_hidden : (b : ℕ) (name : List ℕ) → IsUnmarked name → P name ≡ true → kept.hides name ≡ true → ItemMeansOne K.items (Y (suc b)) name
+  item_hidden b name u p hidden = record {
+    types = s.hidden_types name p hidden ∙ if_hidden name true hidden ((meanings_over text (Y b)).type_named name);
+    structs = s.hidden_structs name p hidden ∙ if_hidden name true hidden ((meanings_over text (Y b)).struct_named name);
+    kind = (reads_level M N).kinds name ∙ ap is_constant_item (same_item name u);
+    constants = sym (s.constants name p);
+    members = λ member. sym (s.members name member p);
+    calls = λ ns vs. hidden_call name p hidden ns vs ∙ if_hidden name true hidden ((meanings_over text (Y b)).call name ns vs);
+  }
 
   means_kept : (k b : ℕ) (name : List ℕ) → k ≤ b → Ranked M k name → (x : Definition) → item_named name M.items ≡ Some x → IsUnmarked name → P name ≡ true → ItemMeansOne K.items (Y b) name
   means_kept zero b name l r x e u p = absurd r
   means_kept (suc k) zero name l r x e u p = absurd (omega (arith, l))
-  means_kept (suc k) (suc b) name l r x e u p =
-      let own : item_named name text.items ≡ Some x = sym (same_item name u) ∙ e in
-      let found = plain_found text.items name x plain own in
-      let passes : list_all P (names_mentioned M (definition_mentions x)) ≡ true = (λ i. list_all P (mentions_of M (sym e i))) ∙ closed name p in
-      let each = each_mentioned K.items (Y b) (definition_mentions x)
-      (λ v next of one w q. means_kept k b next (omega (arith, l)) (r next (above name next p (subst (λ o. IsIn next (mentions_of M o)) (sym e) one))) (there M.items v next of).0 (there M.items v next of).1 w q)
-      passes found.mentions in
-      let agree : Agreeing K.items (Y b) (definition_mentions x) = λ bound. agree_on M K.items (Y b) (known_kinds M) (kept_kinds b) bound (definition_mentions x) each in
-      item_kept b name u p (over own agree)
+  means_kept (suc k) (suc b) name l r x e u p = by (kept.hides name) refl (λ next. means_kept k b next (omega (arith, l)))
     where
       over : item_named name text.items ≡ Some x → Agreeing K.items (Y b) (definition_mentions x) → ItemMeansOne (meanings_over text K.items) (meanings_over text (Y b)) name
       over own agree = item_over text K.items (Y b) name (subst (λ o. Agreeing K.items (Y b) (mentions_in o)) (sym own) agree)
+
+      by : (c : Bool) → kept.hides name ≡ c
+          → ((next : List ℕ) → Ranked M k next → (y : Definition) → item_named next M.items ≡ Some y → IsUnmarked next → P next ≡ true → ItemMeansOne K.items (Y b) next) → ItemMeansOne K.items (Y (suc b)) name
+      by true hidden below = item_hidden b name u p hidden
+      by false seen below =
+          let own : item_named name text.items ≡ Some x = sym (same_item name u) ∙ e in
+          let found = plain_found text.items name x plain own in
+          let passes : list_all P (names_mentioned M (definition_mentions x)) ≡ true = (λ i. list_all P (mentions_of M (sym e i))) ∙ closed name p seen in
+          let each = each_mentioned K.items (Y b) (definition_mentions x)
+          (λ v next of one w q. below next (r next (above name next p seen (subst (λ o. IsIn next (mentions_of M o)) (sym e) one))) (there M.items v next of).0 (there M.items v next of).1 w q)
+          passes found.mentions in
+          let agree : Agreeing K.items (Y b) (definition_mentions x) = λ bound. agree_on M K.items (Y b) (known_kinds M) (kept_kinds b) bound (definition_mentions x) each in
+          item_kept b name u p seen (over own agree)
 
   -- ---- expressions
 

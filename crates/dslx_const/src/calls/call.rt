@@ -3,8 +3,8 @@
 ghost use Rattle.dslx_meaning.specs.Inference.{inferred_for as number_for};
 ghost use Rattle.dslx_meaning.specs.Values.{type_of_value as the_type};
 ghost use Rattle.std.specs.Prelude.{◌≡◌, ◌∷◌, ◌==◌, [], Some, OnOk, IfOk, map, length, nat_lt};
-ghost use Rattle.dslx_names.specs.ConstMachine.Items.{uses_function, at_function, call_fails, body_begins, operands_on, call_begins, default_begins, parametric_begins, parametrics_on, parametric_given};
-ghost use Rattle.dslx_names.specs.ConstMachine.States.{back_at};
+ghost use Rattle.dslx_names.specs.ConstMachine.Items.{function_from, uses_function, at_function, call_fails, body_begins, operands_on, call_begins, default_begins, parametric_begins, parametrics_on, parametric_given};
+ghost use Rattle.dslx_names.specs.ConstMachine.States.{back_at, one_less};
 ghost use Rattle.dslx_names.specs.ConstMachine.Steps.{stepped};
 ghost use Rattle.dslx_names.specs.ConstMachine.Tasks.{GivesParametric, GivesOperands, FindsParametrics};
 ghost use Rattle.dslx_values.specs.Inference.Inferences.{inferred};
@@ -56,6 +56,22 @@ pub fn use_function<'a>(
     operands: Vec<DslxValue>,
 ) -> Result<(), AllocError>
     ensures { OnOk result (shown machine.new ≡ uses_function name.now parametric_args.items operands.items (shown machine.old)) }
+{
+    if machine.hides(name) {
+        machine.give(None)
+    } else {
+        go_to_function(machine, alloc, name, parametric_args, operands)
+    }
+}
+
+fn go_to_function<'a>(
+    machine: &mut Machine<'a>,
+    alloc: Global,
+    name: &Name,
+    parametric_args: Vec<DslxValue>,
+    operands: Vec<DslxValue>,
+) -> Result<(), AllocError>
+    ensures { OnOk result (shown machine.new ≡ function_from (one_less (shown machine.old).left) name.now parametric_args.items operands.items (shown machine.old)) }
 {
     match one_left(machine.left) {
         Some(left) => match find_function(machine.text.items.as_slice(), name) {

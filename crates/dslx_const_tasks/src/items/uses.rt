@@ -4,7 +4,7 @@ ghost use Rattle.std.specs.Prelude.{◌≡◌, [], Some, OnOk, IfOk};
 ghost use Rattle.dslx_meaning.specs.Environment.{given_in};
 ghost use Rattle.dslx_meaning.specs.Items.{item_named, is_constant_item, member_named};
 ghost use Rattle.dslx_names.specs.ConstMachine.States.{at_item, one_less};
-ghost use Rattle.dslx_names.specs.ConstMachine.Items.{constant_from, is_constant_within, member_from, uses_constant, uses_name, uses_member, at_member, uses_struct, uses_type, at_type_item, at_struct};
+ghost use Rattle.dslx_names.specs.ConstMachine.Items.{constant_from, is_constant_within, member_from, struct_from, type_from, uses_constant, uses_name, uses_member, at_member, uses_struct, uses_type, at_type_item, at_struct};
 ghost use Rattle.dslx_const_tasks.specs.Plain.{shown};
 
 use crate::items::ty::gather_field_types;
@@ -164,6 +164,20 @@ pub fn use_struct<'a>(
 ) -> Result<(), AllocError>
     ensures { OnOk result (shown machine.new ≡ uses_struct name.now (shown machine.old)) }
 {
+    if machine.hides(name) {
+        machine.give_type(None)
+    } else {
+        find_struct_type(machine, alloc, name)
+    }
+}
+
+fn find_struct_type<'a>(
+    machine: &mut Machine<'a>,
+    alloc: Global,
+    name: &Name,
+) -> Result<(), AllocError>
+    ensures { OnOk result (shown machine.new ≡ struct_from (one_less (shown machine.old).left) name.now (shown machine.old)) }
+{
     match one_left(machine.left) {
         Some(left) => match find_struct(machine.text.items.as_slice(), name) {
             Some(structure) => go_to_struct(machine, alloc, left, structure),
@@ -198,6 +212,20 @@ pub(crate) fn use_type<'a>(
     name: &Name,
 ) -> Result<(), AllocError>
     ensures { OnOk result (shown machine.new ≡ uses_type name.now (shown machine.old)) }
+{
+    if machine.hides(name) {
+        machine.give_type(None)
+    } else {
+        find_named_type(machine, alloc, name)
+    }
+}
+
+fn find_named_type<'a>(
+    machine: &mut Machine<'a>,
+    alloc: Global,
+    name: &Name,
+) -> Result<(), AllocError>
+    ensures { OnOk result (shown machine.new ≡ type_from (one_less (shown machine.old).left) name.now (shown machine.old)) }
 {
     match one_left(machine.left) {
         Some(left) => match find_item(machine.text.items.as_slice(), name) {

@@ -24,7 +24,7 @@ use Rattle.dslx_meaning.specs.declared.ty.DslxType.{DslxType}
 use Rattle.dslx_meaning.specs.declared.value.UntypedLiteral.{UntypedLiteral}
 use Rattle.dslx_meaning.specs.declared.value.DslxValue.{DslxValue}
 use Rattle.dslx_tree.specs.declared.item.Module.{Module}
-use Rattle.dslx_names.specs.ConstMachine.Kept.{KeptValues, items_within, kept_within}
+use Rattle.dslx_names.specs.ConstMachine.Kept.{KeptValues, is_hidden, items_within, kept_within, unless_hidden}
 use Rattle.dslx_names.specs.ConstMachine.Tasks.{ConstState, ConstCall}
 use Rattle.dslx_names.specs.ConstMachine.Items as s
 use Rattle.dslx_names.specs.ConstMachine.States.{at_item, one_less}
@@ -41,20 +41,28 @@ kept_member : (kept : KeptValues) (m : Module) (n : ℕ) (e a : List ℕ) → (k
 kept_member kept m zero e a = refl
 kept_member kept m (suc n) e a = refl
 
--- but for values, these items are those
-record AreButValues (items others : Meanings) : Type 0 where
-  types : (name : List ℕ) → items.type_named name ≡ others.type_named name
-  structs : (name : List ℕ) → items.struct_named name ≡ others.struct_named name
-  calls : (name : List ℕ) (parametric_args vs : List DslxValue) → items.call name parametric_args vs ≡ others.call name parametric_args vs
+-- but for values, these items are those, unless they are hidden
+record AreButValues (k : Option KeptValues) (items others : Meanings) : Type 0 where
+  types : (name : List ℕ) → items.type_named name ≡ unless_hidden (is_hidden k name) (others.type_named name)
+  structs : (name : List ℕ) → items.struct_named name ≡ unless_hidden (is_hidden k name) (others.struct_named name)
+  calls : (name : List ℕ) (parametric_args vs : List DslxValue) → items.call name parametric_args vs ≡ unless_hidden (is_hidden k name) (others.call name parametric_args vs)
 
 -- they are the items of the text over those of shorter chains
-no_items : (k : Option KeptValues) (m : Module) → AreButValues (items_within k m zero) i.nothing_known
+no_items : (k : Option KeptValues) (m : Module) → AreButValues k (items_within k m zero) i.nothing_known
 no_items None m = record { types = λ name. refl; structs = λ name. refl; calls = λ name parametric_args vs. refl }
 no_items (Some kept) m = record { types = λ name. refl; structs = λ name. refl; calls = λ name parametric_args vs. refl }
 
-over_items : (k : Option KeptValues) (m : Module) (n : ℕ) → AreButValues (items_within k m (suc n)) (i.meanings_over m (items_within k m n))
+over_items : (k : Option KeptValues) (m : Module) (n : ℕ) → AreButValues k (items_within k m (suc n)) (i.meanings_over m (items_within k m n))
 over_items None m n = record { types = λ name. refl; structs = λ name. refl; calls = λ name parametric_args vs. refl }
 over_items (Some kept) m n = record { types = λ name. refl; structs = λ name. refl; calls = λ name parametric_args vs. refl }
+
+abbrev over_shorter : Option KeptValues → Module → ℕ → Meanings
+over_shorter k m zero = i.nothing_known
+over_shorter k m (suc n) = i.meanings_over m (items_within k m n)
+
+but_values : (k : Option KeptValues) (m : Module) (n : ℕ) → AreButValues k (items_within k m n) (over_shorter k m n)
+but_values k m zero = no_items k m
+but_values k m (suc n) = over_items k m n
 
 -- ---- constants, names, members
 
@@ -127,14 +135,18 @@ at_struct_keeps n None run = refl
 at_struct_keeps n (Some x) run = field_types_keep [] x.fields x (at_item n [] run)
 
 pub uses_struct_keeps : (name : List ℕ) (run : ConstState) → answer_of (s.uses_struct name run) ≡ answer run.todo (gives_type ((env_in run).items.struct_named name) (place_of run))
-uses_struct_keeps name run = within run.left
+uses_struct_keeps name run = by (is_hidden run.kept name) ∙ ap (λ t. answer run.todo (gives_type t (place_of run))) (sym ((but_values run.kept run.text run.left).structs name))
   where
-    within : (n : ℕ) → answer_of (s.struct_from (one_less n) name run) ≡ answer run.todo (gives_type ((items_within run.kept run.text n).struct_named name) (place_of run))
-    within zero = ap (λ t. answer run.todo (gives_type t (place_of run))) (sym ((no_items run.kept run.text).structs name))
-    within (suc n) = at_struct_keeps n (as_struct (item_named name run.text.items)) run ∙ ap (λ t. answer run.todo (gives_type t (place_of run))) (sym ((over_items run.kept run.text n).structs name))
+    within : (n : ℕ) → answer_of (s.struct_from (one_less n) name run) ≡ answer run.todo (gives_type ((over_shorter run.kept run.text n).struct_named name) (place_of run))
+    within zero = refl
+    within (suc n) = at_struct_keeps n (as_struct (item_named name run.text.items)) run
+
+    by : (b : Bool) → answer_of (s.struct_unless b name run) ≡ answer run.todo (gives_type (unless_hidden b ((over_shorter run.kept run.text run.left).struct_named name)) (place_of run))
+    by true = refl
+    by false = within run.left
 
 pub uses_type_keeps : (name : List ℕ) (run : ConstState) → answer_of (s.uses_type name run) ≡ answer run.todo (gives_type ((env_in run).items.type_named name) (place_of run))
-uses_type_keeps name run = within run.left
+uses_type_keeps name run = by (is_hidden run.kept name) ∙ ap (λ t. answer run.todo (gives_type t (place_of run))) (sym ((but_values run.kept run.text run.left).types name))
   where
     found : (n : ℕ) (o : Option Definition) → answer_of (s.at_type_item n o run) ≡ answer run.todo (gives_type (i.type_of_item (items_within run.kept run.text n) o) (place_of run))
     found n None = refl
@@ -145,9 +157,13 @@ uses_type_keeps name run = within run.left
     found n (Some (d.Struct x)) = at_struct_keeps n (Some x) run
     found n (Some (d.Enum e)) = refl
 
-    within : (n : ℕ) → answer_of (s.type_from (one_less n) name run) ≡ answer run.todo (gives_type ((items_within run.kept run.text n).type_named name) (place_of run))
-    within zero = ap (λ t. answer run.todo (gives_type t (place_of run))) (sym ((no_items run.kept run.text).types name))
-    within (suc n) = found n (item_named name run.text.items) ∙ ap (λ t. answer run.todo (gives_type t (place_of run))) (sym ((over_items run.kept run.text n).types name))
+    within : (n : ℕ) → answer_of (s.type_from (one_less n) name run) ≡ answer run.todo (gives_type ((over_shorter run.kept run.text n).type_named name) (place_of run))
+    within zero = refl
+    within (suc n) = found n (item_named name run.text.items)
+
+    by : (b : Bool) → answer_of (s.type_unless b name run) ≡ answer run.todo (gives_type (unless_hidden b ((over_shorter run.kept run.text run.left).type_named name)) (place_of run))
+    by true = refl
+    by false = within run.left
 
 -- ---- calls
 
@@ -178,7 +194,8 @@ parametric_args_inferred items f parametric_args vs = by (nat_lt (length paramet
 
 pub uses_function_keeps : (name : List ℕ) (parametric_args vs : List DslxValue) (run : ConstState)
     → answer_of (s.uses_function name parametric_args vs run) ≡ answer run.todo (gives ((env_in run).items.call name parametric_args vs) (place_of run))
-uses_function_keeps name parametric_args vs run = within run.left
+uses_function_keeps name parametric_args vs run =
+    by (is_hidden run.kept name) ∙ ap (λ v. answer run.todo (gives v (place_of run))) (sym ((but_values run.kept run.text run.left).calls name parametric_args vs))
   where
     found : (n : ℕ) (o : Option Function) → answer_of (s.at_function n o parametric_args vs run)
         ≡ answer run.todo (gives (and_then o (λ f. i.call_of (items_within run.kept run.text n) f parametric_args vs)) (place_of run))
@@ -186,9 +203,14 @@ uses_function_keeps name parametric_args vs run = within run.left
     found n (Some f) =
         ap (λ o. answer run.todo (gives (and_then o (λ ns. i.function_value (items_within run.kept run.text n) f ns vs)) (place_of run))) (parametric_args_inferred (items_within run.kept run.text n) f parametric_args vs)
 
-    within : (n : ℕ) → answer_of (s.function_from (one_less n) name parametric_args vs run) ≡ answer run.todo (gives ((items_within run.kept run.text n).call name parametric_args vs) (place_of run))
-    within zero = ap (λ v. answer run.todo (gives v (place_of run))) (sym ((no_items run.kept run.text).calls name parametric_args vs))
-    within (suc n) = found n (as_function (item_named name run.text.items)) ∙ ap (λ v. answer run.todo (gives v (place_of run))) (sym ((over_items run.kept run.text n).calls name parametric_args vs))
+    within : (n : ℕ) → answer_of (s.function_from (one_less n) name parametric_args vs run) ≡ answer run.todo (gives ((over_shorter run.kept run.text n).call name parametric_args vs) (place_of run))
+    within zero = refl
+    within (suc n) = found n (as_function (item_named name run.text.items))
+
+    by : (b : Bool) → answer_of (s.function_unless b name parametric_args vs run)
+        ≡ answer run.todo (gives (unless_hidden b ((over_shorter run.kept run.text run.left).call name parametric_args vs)) (place_of run))
+    by true = refl
+    by false = within run.left
 
 pub operands_keep : (vs : List DslxValue) (call : ConstCall) (fs : List Field) (run : ConstState) → call.operands ≡ vs
     → answer_of (s.operands_on vs call fs run) ≡ answer run.todo (back_from call (operands_in call fs (env_in run)) (place_of run))

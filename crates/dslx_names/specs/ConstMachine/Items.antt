@@ -1,5 +1,5 @@
 -- What a step does where an item is used: it goes to the item, unless the chain of uses is too long or there is none such.
-use Rattle.std.specs.Prelude.{nat_lt, ℕ, List, [], ◌∷◌, ◌==◌, map, length, Bool, false, Option, Some, None, if◌then◌else◌}
+use Rattle.std.specs.Prelude.{nat_lt, ℕ, List, [], ◌∷◌, ◌==◌, map, length, Bool, true, false, Option, Some, None, if◌then◌else◌}
 use Rattle.dslx_tree.specs.declared.expr.Expr.{Expr}
 use Rattle.dslx_tree.specs.declared.item.Constant.{Constant}
 use Rattle.dslx_tree.specs.declared.item.Definition.{Definition}
@@ -18,7 +18,7 @@ use Rattle.dslx_meaning.specs.Values.{type_of_value}
 use Rattle.dslx_meaning.specs.declared.ty.DslxType.{DslxType}
 use Rattle.dslx_meaning.specs.declared.ty.DslxType as ty
 use Rattle.dslx_meaning.specs.declared.value.DslxValue.{DslxValue}
-use Rattle.dslx_names.specs.ConstMachine.Kept.{KeptValues}
+use Rattle.dslx_names.specs.ConstMachine.Kept.{KeptValues, is_hidden}
 use Rattle.dslx_names.specs.ConstMachine.Tasks.{ConstState, ConstCall, ValueDen, DoesBlock, FindsType, FindsMember, MakesEnumType, GathersFieldTypes, FindsParametrics, GivesParametric, GivesOperands, Numbers, Returns}
 use Rattle.dslx_names.specs.ConstMachine.States.{finds_value, finds_type, doing, one_less, at_item, back_at, binding}
 
@@ -91,9 +91,13 @@ abbrev pub struct_from : Option ℕ → List ℕ → ConstState → ConstState
 struct_from None name run = finds_type None run
 struct_from (Some n) name run = at_struct n (as_struct (item_named name run.text.items)) run
 
+abbrev pub struct_unless : Bool → List ℕ → ConstState → ConstState
+struct_unless true name run = finds_type None run
+struct_unless false name run = struct_from (one_less run.left) name run
+
 -- the type of a struct
 abbrev pub uses_struct : List ℕ → ConstState → ConstState
-uses_struct name run = struct_from (one_less run.left) name run
+uses_struct name run = struct_unless (is_hidden run.kept name) name run
 
 abbrev pub at_type_item : ℕ → Option Definition → ConstState → ConstState
 at_type_item n (Some (d.Alias a)) run = at_item n (FindsType a.ty ∷ []) run
@@ -105,9 +109,13 @@ abbrev pub type_from : Option ℕ → List ℕ → ConstState → ConstState
 type_from None name run = finds_type None run
 type_from (Some n) name run = at_type_item n (item_named name run.text.items) run
 
+abbrev pub type_unless : Bool → List ℕ → ConstState → ConstState
+type_unless true name run = finds_type None run
+type_unless false name run = type_from (one_less run.left) name run
+
 -- the type that a name stands for
 abbrev pub uses_type : List ℕ → ConstState → ConstState
-uses_type name run = type_from (one_less run.left) name run
+uses_type name run = type_unless (is_hidden run.kept name) name run
 
 -- ---- calls of functions
 
@@ -126,9 +134,13 @@ abbrev pub function_from : Option ℕ → List ℕ → List DslxValue → List D
 function_from None name parametric_args vs run = finds_value None run
 function_from (Some n) name parametric_args vs run = at_function n (as_function (item_named name run.text.items)) parametric_args vs run
 
+abbrev pub function_unless : Bool → List ℕ → List DslxValue → List DslxValue → ConstState → ConstState
+function_unless true name parametric_args vs run = finds_value None run
+function_unless false name parametric_args vs run = function_from (one_less run.left) name parametric_args vs run
+
 -- a function of the text at its parametric arguments and its operands
 abbrev pub uses_function : List ℕ → List DslxValue → List DslxValue → ConstState → ConstState
-uses_function name parametric_args vs run = function_from (one_less run.left) name parametric_args vs run
+uses_function name parametric_args vs run = function_unless (is_hidden run.kept name) name parametric_args vs run
 
 -- a call that comes to nothing
 abbrev pub call_fails : ConstCall → ConstState → ConstState

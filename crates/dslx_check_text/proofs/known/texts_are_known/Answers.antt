@@ -18,6 +18,7 @@ returns c = λ text reaching plain reached.
       no_constant = names.no_constant;
       no_member = names.no_member;
       plain = plain;
+      reaches = names.reaches;
       free = names.free;
       values = λ kept P bound e s p u. c.kept_values_are_known.ensures text plain kept P s bound e p u;
     }
