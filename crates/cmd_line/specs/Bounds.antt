@@ -15,3 +15,4 @@ IsInBounds (request.Sim said) = Unit {0}
 IsInBounds (request.Schedule said) = 1 ≤ said.timing.stages
 IsInBounds (request.Opt said) = Unit {0}
 IsInBounds (request.Verilog said) = 1 ≤ said.timing.stages
+IsInBounds (request.Ir said) = Unit {0}

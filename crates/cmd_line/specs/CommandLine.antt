@@ -13,6 +13,7 @@ use Rattle.cmd_line.specs.declared.request.Run.{Run}
 use Rattle.cmd_line.specs.declared.request.Sim.{Sim}
 use Rattle.cmd_line.specs.declared.request.Schedule.{Schedule}
 use Rattle.cmd_line.specs.declared.request.Opt.{Opt}
+use Rattle.cmd_line.specs.declared.request.Ir.{Ir as SaidIr}
 use Rattle.cmd_line.specs.declared.request.Source.{Source}
 use Rattle.cmd_line.specs.declared.request.Source.TheVariants.{Dslx, Ir}
 use Rattle.cmd_line.specs.declared.request.Timing.{Timing}
@@ -88,24 +89,28 @@ interval = record (option (codes "ii")) { parser = Some (vp.Signed (pos 1) (pos 
 abbrev pub scheduling : Text → App
 scheduling name = with_rule (with_rule (with_rule (with_rule (new_app name) (file (codes "design"))) clock) stages) interval
 
--- `schedule FILE --clock PS [--stages N] [--ii N] [--from F]`
+-- `schedule FILE --clock PS [--stages N] [--ii N] [--from F] [--top NAME]`
 abbrev pub schedule : App
-schedule = with_rule (scheduling (codes "schedule")) from
+schedule = with_rule (with_rule (scheduling (codes "schedule")) from) top
 
 -- `verilog FILE --clock PS [--stages N] [--ii N] [--depth D] [--from F]`
 abbrev pub verilog : App
 verilog = with_rule (with_rule (scheduling (codes "verilog")) depth) from
 
--- `opt FILE [--from F]`
+-- `opt FILE [--from F] [--top NAME]`
 abbrev pub opt : App
-opt = with_rule (with_rule (new_app (codes "opt")) (file (codes "design"))) from
+opt = with_rule (with_rule (with_rule (new_app (codes "opt")) (file (codes "design"))) from) top
+
+-- `ir FILE [--top NAME]`
+abbrev pub ir : App
+ir = with_rule (with_rule (new_app (codes "ir")) (file (codes "design"))) top
 
 -- the words begin with no program's name
 abbrev pub bare : App → App
 bare app = record app { top = record app.top { no_binary_name = true } }
 
 unfoldable pub xls : App
-xls = with_subcommand (with_subcommand (with_subcommand (with_subcommand (with_subcommand (with_subcommand (bare (new_app (codes "xls"))) check.top) run.top) sim.top) schedule.top) opt.top) verilog.top
+xls = with_subcommand (with_subcommand (with_subcommand (with_subcommand (with_subcommand (with_subcommand (with_subcommand (bare (new_app (codes "xls"))) check.top) run.top) sim.top) schedule.top) opt.top) verilog.top) ir.top
 
 -- ---- what words say
 
@@ -168,12 +173,16 @@ timing_arguments rows =
 
 abbrev pub schedule_arguments : List Row → Option (Schedule Text)
 schedule_arguments rows =
-    option_and_then (λ design. option_and_then (λ timing. option_map (λ source. record { design = design; timing = timing; source = source })
-    (source_in (first_of (codes "from") rows))) (timing_arguments rows)) (first_of (codes "design") rows)
+    option_and_then (λ design. option_and_then (λ timing. option_and_then (λ source. option_map (λ name. record { design = design; top = name; timing = timing; source = source })
+    (top_in source (first_of (codes "top") rows))) (source_in (first_of (codes "from") rows))) (timing_arguments rows)) (first_of (codes "design") rows)
 
 abbrev pub opt_arguments : List Row → Option (Opt Text)
 opt_arguments rows =
-    option_and_then (λ design. option_map (λ source. record { design = design; source = source }) (source_in (first_of (codes "from") rows))) (first_of (codes "design") rows)
+    option_and_then (λ design. option_and_then (λ source. option_map (λ name. record { design = design; top = name; source = source })
+    (top_in source (first_of (codes "top") rows))) (source_in (first_of (codes "from") rows))) (first_of (codes "design") rows)
+
+abbrev pub ir_arguments : List Row → Option (SaidIr Text)
+ir_arguments rows = option_map (λ design. record { design = design; top = first_of (codes "top") rows }) (first_of (codes "design") rows)
 
 abbrev pub verilog_arguments : List Row → Option (Verilog Text)
 verilog_arguments rows =
@@ -189,6 +198,7 @@ subcommand_arguments found =
     else if bytes_eq found.0 (codes "schedule") then option_map request.Schedule (schedule_arguments found.1)
     else if bytes_eq found.0 (codes "opt") then option_map request.Opt (opt_arguments found.1)
     else if bytes_eq found.0 (codes "verilog") then option_map request.Verilog (verilog_arguments found.1)
+    else if bytes_eq found.0 (codes "ir") then option_map request.Ir (ir_arguments found.1)
     else None
 
 -- where `clap` finds no fault in the words, what the matches of their subcommand say

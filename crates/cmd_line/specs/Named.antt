@@ -9,6 +9,7 @@ use Rattle.cmd_line.specs.declared.request.Run.{Run}
 use Rattle.cmd_line.specs.declared.request.Sim.{Sim}
 use Rattle.cmd_line.specs.declared.request.Schedule.{Schedule}
 use Rattle.cmd_line.specs.declared.request.Opt.{Opt}
+use Rattle.cmd_line.specs.declared.request.Ir.{Ir}
 use Rattle.cmd_line.specs.declared.request.Verilog.{Verilog}
 
 abbrev pub named_check : Check (Bor (List ℕ)) → Check (List ℕ)
@@ -21,10 +22,13 @@ abbrev pub named_sim : Sim (Bor (List ℕ)) → Sim (List ℕ)
 named_sim said = record { design = said.design.now; rows = said.rows.now }
 
 abbrev pub named_schedule : Schedule (Bor (List ℕ)) → Schedule (List ℕ)
-named_schedule said = record { design = said.design.now; timing = said.timing; source = said.source }
+named_schedule said = record { design = said.design.now; top = option_copied said.top; timing = said.timing; source = said.source }
 
 abbrev pub named_opt : Opt (Bor (List ℕ)) → Opt (List ℕ)
-named_opt said = record { design = said.design.now; source = said.source }
+named_opt said = record { design = said.design.now; top = option_copied said.top; source = said.source }
+
+abbrev pub named_ir : Ir (Bor (List ℕ)) → Ir (List ℕ)
+named_ir said = record { design = said.design.now; top = option_copied said.top }
 
 abbrev pub named_verilog : Verilog (Bor (List ℕ)) → Verilog (List ℕ)
 named_verilog said = record { design = said.design.now; timing = said.timing; depth = said.depth; source = said.source }
@@ -36,3 +40,4 @@ named (request.Sim said) = request.Sim (named_sim said)
 named (request.Schedule said) = request.Schedule (named_schedule said)
 named (request.Opt said) = request.Opt (named_opt said)
 named (request.Verilog said) = request.Verilog (named_verilog said)
+named (request.Ir said) = request.Ir (named_ir said)

@@ -1,7 +1,7 @@
 ghost use Rattle.std.specs.Prelude.{◌≡◌, IfOk, false, codes};
 ghost use Rattle.clap.specs.Words.{App, Rule, app_of, new_app, rule_of, with_rule, with_subcommand as with_app};
 ghost use Rattle.clap.specs.declared.builder.Command.TheViews.{out-Command as fields_of};
-ghost use Rattle.cmd_line.specs.CommandLine.{activations, check, clock, depth, file, from, interval, opt, option, plain_run, run, schedule, scheduling, sim, stages, top, verilog, workers, xls};
+ghost use Rattle.cmd_line.specs.CommandLine.{activations, check, clock, depth, file, from, interval, ir, opt, option, plain_run, run, schedule, scheduling, sim, stages, top, verilog, workers, xls};
 
 use clap::{Arg, Command, value_parser};
 use std::alloc::{AllocError, Global};
@@ -16,7 +16,8 @@ pub fn command<'a>(alloc: Global) -> Result<Command<'a>, AllocError>
     let xls = with_subcommand(xls, sim(alloc));
     let xls = with_subcommand(xls, schedule(alloc));
     let xls = with_subcommand(xls, opt(alloc));
-    with_subcommand(xls, verilog(alloc))
+    let xls = with_subcommand(xls, verilog(alloc));
+    with_subcommand(xls, ir(alloc))
 }
 
 /// What was built, with a subcommand more, where there was memory for both.
@@ -99,7 +100,8 @@ fn schedule<'a>(alloc: Global) -> Result<Command<'a>, AllocError>
     ensures local { IfOk result (λ command. (fields_of command).has_globals ≡ false) }
 {
     let built = scheduling(alloc, "schedule");
-    with_arg(built, from(alloc))
+    let built = with_arg(built, from(alloc));
+    with_arg(built, top(alloc))
 }
 
 fn verilog<'a>(alloc: Global) -> Result<Command<'a>, AllocError>
@@ -127,7 +129,16 @@ fn opt<'a>(alloc: Global) -> Result<Command<'a>, AllocError>
     ensures local { IfOk result (λ command. (fields_of command).has_globals ≡ false) }
 {
     let built = of_design(alloc, "opt");
-    with_arg(built, from(alloc))
+    let built = with_arg(built, from(alloc));
+    with_arg(built, top(alloc))
+}
+
+fn ir<'a>(alloc: Global) -> Result<Command<'a>, AllocError>
+    ensures app { IfOk result (λ command. app_of command ≡ ir) }
+    ensures local { IfOk result (λ command. (fields_of command).has_globals ≡ false) }
+{
+    let built = of_design(alloc, "ir");
+    with_arg(built, top(alloc))
 }
 
 /// A subcommand whose first word is the design's file.

@@ -7,6 +7,7 @@ pub enum Request<N> {
     Schedule(Schedule<N>),
     Opt(Opt<N>),
     Verilog(Verilog<N>),
+    Ir(Ir<N>),
 }
 
 /// `check FILE [--top NAME]`
@@ -53,18 +54,30 @@ pub struct Sim<N> {
     pub rows: N,
 }
 
-/// `schedule FILE --clock PS [--stages N] [--ii N] [--from F]`
+/// `ir FILE [--top NAME]`
+#[derive(Clone, Copy)]
+pub struct Ir<N> {
+    pub design: N,
+    /// The name of the top proc, which is the last one by default.
+    pub top: Option<N>,
+}
+
+/// `schedule FILE --clock PS [--stages N] [--ii N] [--from F] [--top NAME]`
 #[derive(Clone, Copy)]
 pub struct Schedule<N> {
     pub design: N,
+    /// The name of the top proc, which is the last one by default; an IR text names its top itself.
+    pub top: Option<N>,
     pub timing: Timing,
     pub source: Source,
 }
 
-/// `opt FILE [--from F]`
+/// `opt FILE [--from F] [--top NAME]`
 #[derive(Clone, Copy)]
 pub struct Opt<N> {
     pub design: N,
+    /// The name of the top proc, which is the last one by default; an IR text names its top itself.
+    pub top: Option<N>,
     pub source: Source,
 }
 

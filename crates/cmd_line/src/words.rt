@@ -1,13 +1,13 @@
 ghost use Rattle.std.specs.Prelude.{◌≡◌, ◌≤◌, IfOk, IfSome, Option, map, option_map, option_and_then, string_bytes};
 ghost use Rattle.std.specs.Option.{option_copied};
 ghost use Rattle.clap.specs.Words.{first_of, found_of, rows_of, subcommand_rows_of};
-ghost use Rattle.cmd_line.specs.CommandLine.{depth_in, most_in, arguments_of, check_arguments, opt_arguments, run_arguments, schedule_arguments, sim_arguments, subcommand_arguments, how_arguments, timing_arguments, top_in, source_in, verilog_arguments, workers_in};
-ghost use Rattle.cmd_line.specs.Named.{named, named_check, named_opt, named_run, named_schedule, named_sim, named_verilog};
+ghost use Rattle.cmd_line.specs.CommandLine.{depth_in, most_in, arguments_of, check_arguments, ir_arguments, opt_arguments, run_arguments, schedule_arguments, sim_arguments, subcommand_arguments, how_arguments, timing_arguments, top_in, source_in, verilog_arguments, workers_in};
+ghost use Rattle.cmd_line.specs.Named.{named, named_check, named_ir, named_opt, named_run, named_schedule, named_sim, named_verilog};
 ghost use Rattle.cmd_line.specs.Bounds.{IsInBounds, IsWorkerCount};
 
 use crate::command::command;
 use crate::number::read_number;
-use crate::request::{Check, How, Opt, Request, Run, Schedule, Sim, Source, Timing, Verilog};
+use crate::request::{Check, How, Ir, Opt, Request, Run, Schedule, Sim, Source, Timing, Verilog};
 use clap::ArgMatches;
 use clap::error::ErrorKind;
 use std::alloc::{AllocError, Global};
@@ -40,6 +40,7 @@ fn request<'a>(matches: &ArgMatches<'a>) -> Option<Request<&'a str>>
         Some(("schedule", matches)) => Some(Request::Schedule(schedule(matches)?)),
         Some(("opt", matches)) => Some(Request::Opt(opt(matches)?)),
         Some(("verilog", matches)) => Some(Request::Verilog(verilog(matches)?)),
+        Some(("ir", matches)) => Some(Request::Ir(ir(matches)?)),
         _ => None,
     }
 }
@@ -175,9 +176,13 @@ fn schedule<'a>(matches: &ArgMatches<'a>) -> Option<Schedule<&'a str>>
     let Some(timing) = timing(matches) else {
         return None;
     };
-    match source(text(matches, "from")) {
-        Some(source) => Some(Schedule {
+    let Some(source) = source(text(matches, "from")) else {
+        return None;
+    };
+    match top_of(source, text(matches, "top")) {
+        Some(top) => Some(Schedule {
             design,
+            top,
             timing,
             source,
         }),
@@ -191,8 +196,27 @@ fn opt<'a>(matches: &ArgMatches<'a>) -> Option<Opt<&'a str>>
     let Some(design) = text(matches, "design") else {
         return None;
     };
-    match source(text(matches, "from")) {
-        Some(source) => Some(Opt { design, source }),
+    let Some(source) = source(text(matches, "from")) else {
+        return None;
+    };
+    match top_of(source, text(matches, "top")) {
+        Some(top) => Some(Opt {
+            design,
+            top,
+            source,
+        }),
+        None => None,
+    }
+}
+
+fn ir<'a>(matches: &ArgMatches<'a>) -> Option<Ir<&'a str>>
+    ensures { option_map named_ir result ≡ ir_arguments (rows_of (found_of matches.now)) }
+{
+    match text(matches, "design") {
+        Some(design) => {
+            let top = text(matches, "top");
+            Some(Ir { design, top })
+        }
         None => None,
     }
 }

@@ -11,23 +11,26 @@ use Rattle.xls_cmd.specs.Shared.Fault.{Fault}
 use Rattle.xls_cmd.specs.Shared.Step.{IsOne, ExpectedBy}
 use Rattle.cmd_line.specs.CommandLine.{arguments_of}
 use Rattle.cmd_line.specs.declared.request.Request.{Request}
-use Rattle.cmd_line.specs.declared.request.Request.TheVariants.{Check, Run, Sim, Schedule, Opt, Verilog}
+use Rattle.cmd_line.specs.declared.request.Request.TheVariants.{Check, Run, Sim, Schedule, Opt, Verilog, Ir as SaysIr}
 use Rattle.cmd_line.specs.declared.request.Source.{Source}
 use Rattle.cmd_line.specs.declared.request.Source.TheVariants.{Dslx, Ir}
 use Rattle.xls_cmd.specs.Design.Commands as design
 use Rattle.xls_cmd.specs.Ir.Commands as ir
 use Rattle.xls_cmd.specs.Schedule.Commands as schedules
+use Rattle.xls_cmd.specs.Lowered.Commands as lowered
 use Rattle.xls_cmd.specs.Opt.Commands as optimising
 use Rattle.xls_cmd.specs.Verilog.Commands as printing
 use Rattle.xls_cmd.specs.Shared.Agrees.{AreAlike, Agrees}
 use Rattle.xls_cmd.specs.Sim.Simulation as simulation
+use Rattle.xls_cmd.proofs.Lemmas.Shared.{one_agrees}
 use Rattle.cmd_line.specs.declared.request.Check.{Check as SaidCheck}
 use Rattle.cmd_line.specs.declared.request.Run.{Run as SaidRun}
 use Rattle.cmd_line.specs.declared.request.Schedule.{Schedule as SaidSchedule}
 use Rattle.cmd_line.specs.declared.request.Opt.{Opt as SaidOpt}
+use Rattle.cmd_line.specs.declared.request.Ir.{Ir as SaidIr}
 use Rattle.cmd_line.specs.declared.request.Sim.{Sim as SaidSim}
 use Rattle.cmd_line.specs.declared.request.Verilog.{Verilog as SaidVerilog}
-use Rattle.xls_cmd.specs.Answer.{by_workers, expected, expected_for, expected_of, expected_of_opt, expected_of_opt_by, expected_of_run, expected_of_schedule, expected_of_schedule_by, expected_of_verilog, expected_of_verilog_by, files_of, files_of_opt, files_of_opt_by, files_of_schedule, files_of_schedule_by, files_of_verilog, files_of_verilog_by, is_exact, is_exact_by, is_exact_for, named_files, named_for, run_by, status_for}
+use Rattle.xls_cmd.specs.Answer.{by_workers, expected, expected_for, expected_of, expected_of_run, expected_of_verilog, expected_of_verilog_by, files_of, files_of_verilog, files_of_verilog_by, is_exact, is_exact_by, is_exact_for, is_read_by, is_settled, is_settled_for, named_files, named_for, run_by, status_for}
 
 -- each command gives one thing, or answers that may differ in their text alone
 pub record TheLaws : Type 0 where
@@ -35,9 +38,10 @@ pub record TheLaws : Type 0 where
   pub run : (holds : Contents) (arguments : SaidRun (List ℕ)) → IsOne (design.run holds arguments)
   pub run_ir : (holds : Contents) (arguments : SaidRun (List ℕ)) → IsOne (ir.run holds arguments)
   pub sim : (holds : Contents) (arguments : SaidSim (List ℕ)) → IsOne (simulation.sim holds arguments)
-  pub schedule_ir : (holds : Contents) (arguments : SaidSchedule (List ℕ)) → IsOne (schedules.schedule holds arguments)
-  pub opt_ir : (holds : Contents) (arguments : SaidOpt (List ℕ)) → Agrees (optimising.opt holds arguments)
+  pub schedule_ir : (holds : Contents) (arguments : SaidSchedule (List ℕ)) → arguments.source ≡ Ir → IsOne (schedules.schedule holds arguments)
+  pub opt : (holds : Contents) (arguments : SaidOpt (List ℕ)) → Agrees (optimising.opt holds arguments)
   pub verilog_ir : (holds : Contents) (arguments : SaidVerilog (List ℕ)) → Agrees (printing.verilog holds arguments)
+  pub ir : (holds : Contents) (arguments : SaidIr (List ℕ)) → Agrees (lowered.ir_of_design holds arguments)
 
 run_is_one : TheLaws → (source : Source) (arguments : SaidRun (List ℕ)) (holds : Contents) → IsOne (run_by source holds arguments)
 run_is_one laws Dslx arguments holds = laws.run holds arguments
@@ -49,13 +53,9 @@ pub any_workers : (source : Source) (holds : Contents) (arguments : SaidRun (Lis
 any_workers Dslx holds arguments count given = (λ is. is, λ is. is)
 any_workers Ir holds arguments count given = (λ is. is, λ is. is)
 
-schedule_is_one : TheLaws → (source : Source) (arguments : SaidSchedule (List ℕ)) (holds : Contents) → IsOne (expected_of_schedule_by source arguments (Some holds))
-schedule_is_one laws Dslx arguments holds a b is also = is ∙ sym also
-schedule_is_one laws Ir arguments holds a b is also = laws.schedule_ir holds arguments a b is.1 also.1
-
-opt_is_one : (source : Source) (arguments : SaidOpt (List ℕ)) (holds : Contents) → is_exact_by source ≡ true → IsOne (expected_of_opt_by source arguments (Some holds))
-opt_is_one Dslx arguments holds exact a b is also = is ∙ sym also
-opt_is_one Ir arguments holds exact a b is also = absurd (cc)
+read_is : (source : Source) → is_read_by source ≡ true → source ≡ Ir
+read_is Dslx h = absurd (cc)
+read_is Ir h = refl
 
 verilog_is_one : (source : Source) (arguments : SaidVerilog (List ℕ)) (holds : Contents) → is_exact_by source ≡ true → IsOne (expected_of_verilog_by source arguments (Some holds))
 verilog_is_one Dslx arguments holds exact a b is also = is ∙ sym also
@@ -65,9 +65,10 @@ expected_of_is_one : TheLaws → (arguments : Request (List ℕ)) (holds : Conte
 expected_of_is_one laws (Check arguments) holds exact a b is also = laws.check holds arguments a b is.1 also.1
 expected_of_is_one laws (Run arguments) holds exact a b is also = run_is_one laws arguments.how.source arguments holds a b is.1 also.1
 expected_of_is_one laws (Sim arguments) holds exact a b is also = laws.sim holds arguments a b is.1 also.1
-expected_of_is_one laws (Schedule arguments) holds exact a b is also = schedule_is_one laws arguments.source arguments holds a b is also
-expected_of_is_one laws (Opt arguments) holds exact a b is also = opt_is_one arguments.source arguments holds exact a b is also
+expected_of_is_one laws (Schedule arguments) holds exact a b is also = laws.schedule_ir holds arguments (read_is arguments.source exact) a b is.1 also.1
+expected_of_is_one laws (Opt arguments) holds exact a b is also = absurd (cc)
 expected_of_is_one laws (Verilog arguments) holds exact a b is also = verilog_is_one arguments.source arguments holds exact a b is also
+expected_of_is_one laws (SaysIr arguments) holds exact a b is also = absurd (cc)
 
 expected_for_is_one : TheLaws → (arguments : Option (Request (List ℕ))) (holds : Contents) → is_exact_for arguments ≡ true → IsOne (expected_for arguments (Some holds))
 expected_for_is_one laws None holds exact a b is also = is ∙ sym also
@@ -78,32 +79,22 @@ expected_is_one laws words holds exact = expected_for_is_one laws (arguments_of 
 
 -- ---- what is expected agrees
 
-alike_here : (a : Result (List ℕ) Fault) → AreAlike a a
-alike_here (Ok text) = tt
-alike_here (Err fault) = refl
-
-one_agrees : (step : Result (List ℕ) Fault → Type 0) → IsOne step → Agrees step
-one_agrees step one a b is also = subst (AreAlike a) (one a b is also) (alike_here a)
-
-opt_agrees : TheLaws → (source : Source) (arguments : SaidOpt (List ℕ)) (holds : Contents) → Agrees (expected_of_opt_by source arguments (Some holds))
-opt_agrees laws Dslx arguments holds a b is also = one_agrees (expected_of_opt_by Dslx arguments (Some holds)) (λ a b is also. is ∙ sym also) a b is also
-opt_agrees laws Ir arguments holds a b is also = laws.opt_ir holds arguments a b is.1 also.1
-
 verilog_agrees : TheLaws → (source : Source) (arguments : SaidVerilog (List ℕ)) (holds : Contents) → Agrees (expected_of_verilog_by source arguments (Some holds))
 verilog_agrees laws Dslx arguments holds a b is also = one_agrees (expected_of_verilog_by Dslx arguments (Some holds)) (λ a b is also. is ∙ sym also) a b is also
 verilog_agrees laws Ir arguments holds a b is also = laws.verilog_ir holds arguments a b is.1 also.1
 
-expected_for_agrees : TheLaws → (arguments : Option (Request (List ℕ))) (holds : Contents) → Agrees (expected_for arguments (Some holds))
-expected_for_agrees laws None holds = one_agrees (expected_for None (Some holds)) (expected_for_is_one laws None holds refl)
-expected_for_agrees laws (Some (Check arguments)) holds = one_agrees (expected_of (Check arguments) (Some holds)) (expected_of_is_one laws (Check arguments) holds refl)
-expected_for_agrees laws (Some (Run arguments)) holds = one_agrees (expected_of (Run arguments) (Some holds)) (expected_of_is_one laws (Run arguments) holds refl)
-expected_for_agrees laws (Some (Sim arguments)) holds = one_agrees (expected_of (Sim arguments) (Some holds)) (expected_of_is_one laws (Sim arguments) holds refl)
-expected_for_agrees laws (Some (Schedule arguments)) holds = one_agrees (expected_of (Schedule arguments) (Some holds)) (expected_of_is_one laws (Schedule arguments) holds refl)
-expected_for_agrees laws (Some (Opt arguments)) holds = opt_agrees laws arguments.source arguments holds
-expected_for_agrees laws (Some (Verilog arguments)) holds = verilog_agrees laws arguments.source arguments holds
+expected_for_agrees : TheLaws → (arguments : Option (Request (List ℕ))) (holds : Contents) → is_settled_for arguments ≡ true → Agrees (expected_for arguments (Some holds))
+expected_for_agrees laws None holds settled = one_agrees (expected_for None (Some holds)) (expected_for_is_one laws None holds refl)
+expected_for_agrees laws (Some (Check arguments)) holds settled = one_agrees (expected_of (Check arguments) (Some holds)) (expected_of_is_one laws (Check arguments) holds refl)
+expected_for_agrees laws (Some (Run arguments)) holds settled = one_agrees (expected_of (Run arguments) (Some holds)) (expected_of_is_one laws (Run arguments) holds refl)
+expected_for_agrees laws (Some (Sim arguments)) holds settled = one_agrees (expected_of (Sim arguments) (Some holds)) (expected_of_is_one laws (Sim arguments) holds refl)
+expected_for_agrees laws (Some (Schedule arguments)) holds settled = one_agrees (expected_of (Schedule arguments) (Some holds)) (expected_of_is_one laws (Schedule arguments) holds settled)
+expected_for_agrees laws (Some (Opt arguments)) holds settled = λ a b is also. laws.opt holds arguments a b is.1 also.1
+expected_for_agrees laws (Some (Verilog arguments)) holds settled = verilog_agrees laws arguments.source arguments holds
+expected_for_agrees laws (Some (SaysIr arguments)) holds settled = λ a b is also. laws.ir holds arguments a b is.1 also.1
 
-pub expected_agrees : TheLaws → (words : List (List ℕ)) (holds : Contents) → Agrees (expected words (Some holds))
-expected_agrees laws words holds = expected_for_agrees laws (arguments_of words) holds
+pub expected_agrees : TheLaws → (words : List (List ℕ)) (holds : Contents) → is_settled words ≡ true → Agrees (expected words (Some holds))
+expected_agrees laws words holds settled = expected_for_agrees laws (arguments_of words) holds settled
 
 same_status : (a b : Result (List ℕ) Fault) → AreAlike a b → status_for a ≡ status_for b
 same_status (Ok a) (Ok b) h = refl
@@ -128,16 +119,6 @@ module _ {V : Type 0} (items : V → List ℕ) (words : List (List ℕ)) (known_
   pub done_by_source : (source : Source) (arguments : SaidRun (List ℕ)) → arguments.how.source ≡ source → IsDone items (ExpectedBy known_contents (λ holds. run_by source holds arguments)) (design.run_files arguments) files given → IsDone items (expected_of_run arguments known_contents) (design.run_files arguments) files given
   done_by_source source arguments is done = subst (λ s. IsDone items (ExpectedBy known_contents (λ holds. run_by s holds arguments)) (design.run_files arguments) files given) (sym is) done
 
-  -- a schedule of what it may be made of
-  pub schedule_by_source : (source : Source) (arguments : SaidSchedule (List ℕ)) → source ≡ arguments.source → IsDone items (expected_of_schedule_by source arguments known_contents) (files_of_schedule_by source arguments) files given →
-      IsDone items (expected_of_schedule arguments known_contents) (files_of_schedule arguments) files given
-  schedule_by_source source arguments is done = subst (λ (s : Source). IsDone items (expected_of_schedule_by s arguments known_contents) (files_of_schedule_by s arguments) files given) is done
-
-  -- an optimised package of what it may be made of
-  pub opt_by_source : (source : Source) (arguments : SaidOpt (List ℕ)) → source ≡ arguments.source → IsDone items (expected_of_opt_by source arguments known_contents) (files_of_opt_by source arguments) files given →
-      IsDone items (expected_of_opt arguments known_contents) (files_of_opt arguments) files given
-  opt_by_source source arguments is done = subst (λ (s : Source). IsDone items (expected_of_opt_by s arguments known_contents) (files_of_opt_by s arguments) files given) is done
-
   -- the Verilog of what it may be made of
   pub verilog_by_source : (source : Source) (arguments : SaidVerilog (List ℕ)) → source ≡ arguments.source → IsDone items (expected_of_verilog_by source arguments known_contents) (files_of_verilog_by source arguments) files given →
       IsDone items (expected_of_verilog arguments known_contents) (files_of_verilog arguments) files given
@@ -157,9 +138,9 @@ complete_at expected' files names out err status faulted broken given one is ris
 complete_at expected' files names out err status faulted broken given one is risen breaks (unread name last faulted' untouched shows) no_fault whole = absurd (no_fault (risen faulted'))
 complete_at expected' files names out err status faulted broken given one is risen breaks (unwritten text expected sound broke shows) no_fault whole = absurd (whole (breaks text broke))
 
-pub completely : ((words : List (List ℕ)) (holds : Contents) → Agrees (expected words (Some holds))) → (words : List (List ℕ)) (known_contents : Option Contents) (files : FileEvents) (names : List (List ℕ)) (out err : SinkEvents) (status : ℕ) (faulted broken : Type 0) →
+pub completely : ((words : List (List ℕ)) (holds : Contents) → is_settled words ≡ true → Agrees (expected words (Some holds))) → (words : List (List ℕ)) (known_contents : Option Contents) (files : FileEvents) (names : List (List ℕ)) (out err : SinkEvents) (status : ℕ) (faulted broken : Type 0) →
     (files.faulted → faulted) → ((bytes : List ℕ) → out.breaks_off bytes → broken) → Answers (expected words known_contents) files names out err status →
-    IfSome known_contents (λ holds. (given : Result (List ℕ) Fault) → expected words (Some holds) given → ¬ faulted → ¬ broken → (status ≡ status_for given) ⊎ (status ≡ 3))
+    IfSome known_contents (λ holds. (given : Result (List ℕ) Fault) → is_settled words ≡ true → expected words (Some holds) given → ¬ faulted → ¬ broken → (status ≡ status_for given) ⊎ (status ≡ 3))
 completely one words None files names out err status faulted broken risen breaks answers = tt
-completely one words (Some holds) files names out err status faulted broken risen breaks answers = λ given is no_fault whole.
-    complete_at (expected words (Some holds)) files names out err status faulted broken given (one words holds) is risen breaks answers no_fault whole
+completely one words (Some holds) files names out err status faulted broken risen breaks answers = λ given settled is no_fault whole.
+    complete_at (expected words (Some holds)) files names out err status faulted broken given (one words holds settled) is risen breaks answers no_fault whole

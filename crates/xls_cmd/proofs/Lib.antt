@@ -3,6 +3,8 @@ mod Answering
 pub mod OnDesign
 -- `run` of IR packages
 pub mod OnIr
+-- `ir`, and packages of designs
+pub mod OnLowered
 -- `opt`
 pub mod OnOpt
 -- `schedule`

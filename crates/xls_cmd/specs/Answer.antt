@@ -8,8 +8,6 @@ use Rattle.cmd_line.specs.CommandLine.{arguments_of}
 use Rattle.cmd_line.specs.declared.request.Request.{Request}
 use Rattle.cmd_line.specs.declared.request.Request.TheVariants as request
 use Rattle.cmd_line.specs.declared.request.Run.{Run}
-use Rattle.cmd_line.specs.declared.request.Schedule.{Schedule}
-use Rattle.cmd_line.specs.declared.request.Opt.{Opt}
 use Rattle.cmd_line.specs.declared.request.Verilog.{Verilog}
 use Rattle.cmd_line.specs.declared.request.Source.{Source}
 use Rattle.cmd_line.specs.declared.request.Source.TheVariants.{Dslx, Ir}
@@ -17,6 +15,7 @@ use Rattle.xls_cmd.specs.Design.Commands as design
 use Rattle.xls_cmd.specs.Ir.Commands as ir
 use Rattle.xls_cmd.specs.Sim.Simulation as simulation
 use Rattle.xls_cmd.specs.Schedule.Commands as schedules
+use Rattle.xls_cmd.specs.Lowered.Commands as lowered
 use Rattle.xls_cmd.specs.Opt.Commands as optimising
 use Rattle.xls_cmd.specs.Verilog.Commands as printing
 
@@ -32,22 +31,6 @@ by_workers count arguments = record arguments { how = record arguments.how { wor
 abbrev pub expected_of_run : Run (List ℕ) → Option Contents → Step (List ℕ)
 expected_of_run arguments known_contents given = ExpectedBy known_contents (λ holds. run_by arguments.how.source holds arguments) given
 
--- schedules of designs are to come
-abbrev pub expected_of_schedule_by : Source → Schedule (List ℕ) → Option Contents → Step (List ℕ)
-expected_of_schedule_by Dslx arguments known_contents given = given ≡ Err Usage
-expected_of_schedule_by Ir arguments known_contents given = ExpectedBy known_contents (λ holds. schedules.schedule holds arguments) given
-
-abbrev pub expected_of_schedule : Schedule (List ℕ) → Option Contents → Step (List ℕ)
-expected_of_schedule arguments known_contents = expected_of_schedule_by arguments.source arguments known_contents
-
--- optimised packages of designs are to come
-abbrev pub expected_of_opt_by : Source → Opt (List ℕ) → Option Contents → Step (List ℕ)
-expected_of_opt_by Dslx arguments known_contents given = given ≡ Err Usage
-expected_of_opt_by Ir arguments known_contents given = ExpectedBy known_contents (λ holds. optimising.opt holds arguments) given
-
-abbrev pub expected_of_opt : Opt (List ℕ) → Option Contents → Step (List ℕ)
-expected_of_opt arguments known_contents = expected_of_opt_by arguments.source arguments known_contents
-
 -- the Verilog of designs is to come
 abbrev pub expected_of_verilog_by : Source → Verilog (List ℕ) → Option Contents → Step (List ℕ)
 expected_of_verilog_by Dslx arguments known_contents given = given ≡ Err Usage
@@ -62,23 +45,10 @@ abbrev pub expected_of : Request (List ℕ) → Option Contents → Step (List �
 expected_of (request.Check arguments) known_contents given = ExpectedBy known_contents (λ holds. design.check holds arguments) given
 expected_of (request.Run arguments) known_contents given = expected_of_run arguments known_contents given
 expected_of (request.Sim arguments) known_contents given = ExpectedBy known_contents (λ holds. simulation.sim holds arguments) given
-expected_of (request.Schedule arguments) known_contents given = expected_of_schedule arguments known_contents given
-expected_of (request.Opt arguments) known_contents given = expected_of_opt arguments known_contents given
+expected_of (request.Schedule arguments) known_contents given = ExpectedBy known_contents (λ holds. schedules.schedule holds arguments) given
+expected_of (request.Opt arguments) known_contents given = ExpectedBy known_contents (λ holds. optimising.opt holds arguments) given
+expected_of (request.Ir arguments) known_contents given = ExpectedBy known_contents (λ holds. lowered.ir_of_design holds arguments) given
 expected_of (request.Verilog arguments) known_contents given = expected_of_verilog arguments known_contents given
-
-abbrev pub files_of_schedule_by : Source → Schedule (List ℕ) → List (List ℕ)
-files_of_schedule_by Dslx arguments = []
-files_of_schedule_by Ir arguments = schedules.schedule_files arguments
-
-abbrev pub files_of_schedule : Schedule (List ℕ) → List (List ℕ)
-files_of_schedule arguments = files_of_schedule_by arguments.source arguments
-
-abbrev pub files_of_opt_by : Source → Opt (List ℕ) → List (List ℕ)
-files_of_opt_by Dslx arguments = []
-files_of_opt_by Ir arguments = optimising.opt_files arguments
-
-abbrev pub files_of_opt : Opt (List ℕ) → List (List ℕ)
-files_of_opt arguments = files_of_opt_by arguments.source arguments
 
 abbrev pub files_of_verilog_by : Source → Verilog (List ℕ) → List (List ℕ)
 files_of_verilog_by Dslx arguments = []
@@ -92,8 +62,9 @@ abbrev pub files_of : Request (List ℕ) → List (List ℕ)
 files_of (request.Check arguments) = design.check_files arguments
 files_of (request.Run arguments) = design.run_files arguments
 files_of (request.Sim arguments) = simulation.sim_files arguments
-files_of (request.Schedule arguments) = files_of_schedule arguments
-files_of (request.Opt arguments) = files_of_opt arguments
+files_of (request.Schedule arguments) = schedules.schedule_files arguments
+files_of (request.Opt arguments) = optimising.opt_files arguments
+files_of (request.Ir arguments) = lowered.ir_files arguments
 files_of (request.Verilog arguments) = files_of_verilog arguments
 
 abbrev pub expected_for : Option (Request (List ℕ)) → Option Contents → Step (List ℕ)
@@ -105,18 +76,35 @@ expected_for (Some arguments) known_contents given = expected_of arguments known
 abbrev pub expected : List (List ℕ) → Option Contents → Step (List ℕ)
 expected words known_contents = expected_for (arguments_of words) known_contents
 
+-- the package of a file is read; that of a design the program chooses
+abbrev pub is_read_by : Source → Bool
+is_read_by Dslx = false
+is_read_by Ir = true
+
 abbrev pub is_exact_by : Source → Bool
 is_exact_by Dslx = true
 is_exact_by Ir = false
 
 abbrev pub is_exact_for : Option (Request (List ℕ)) → Bool
-is_exact_for (Some (request.Opt arguments)) = is_exact_by arguments.source
+is_exact_for (Some (request.Ir arguments)) = false
+is_exact_for (Some (request.Schedule arguments)) = is_read_by arguments.source
+is_exact_for (Some (request.Opt arguments)) = false
 is_exact_for (Some (request.Verilog arguments)) = is_exact_by arguments.source
 is_exact_for _ = true
 
--- words for which one thing is expected: all but those for an optimised package or for a module, of which several are as good
+-- words for which one thing is expected: all but those for a package or a module, of which several are as good, and for schedules of a design's
+-- package
 abbrev pub is_exact : List (List ℕ) → Bool
 is_exact words = is_exact_for (arguments_of words)
+
+abbrev pub is_settled_for : Option (Request (List ℕ)) → Bool
+is_settled_for (Some (request.Schedule arguments)) = is_read_by arguments.source
+is_settled_for _ = true
+
+-- words for which it is settled whether a text is expected, and else the cause: all but those for schedules of a design's package, which may be
+-- there for one package and not for another
+abbrev pub is_settled : List (List ℕ) → Bool
+is_settled words = is_settled_for (arguments_of words)
 
 -- the status with which it is answered
 abbrev pub status_for : Result (List ℕ) Fault → ℕ

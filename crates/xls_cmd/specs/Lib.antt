@@ -4,6 +4,8 @@ pub mod Answer
 pub mod Design
 -- `run` of IR packages
 pub mod Ir
+-- `ir`, and packages of designs
+pub mod Lowered
 -- `opt`
 pub mod Opt
 -- `schedule`

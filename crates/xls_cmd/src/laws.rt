@@ -6,12 +6,13 @@ ghost use Rattle.cmd_line.specs.declared.request.Source.{Source};
 ghost use Rattle.xb_io.specs.Contents.{Contents};
 ghost use Rattle.xls_cmd.specs.Shared.Step.{IsOne};
 ghost use Rattle.xls_cmd.specs.Shared.Agrees.{Agrees};
-ghost use Rattle.xls_cmd.specs.Answer.{by_workers, expected, is_exact, run_by};
+ghost use Rattle.xls_cmd.specs.Answer.{by_workers, expected, is_exact, is_settled, run_by};
 
-/// The words and the files determine what is expected, but for the texts of optimised packages and of modules.
+/// The words and the files determine what is expected, but for the texts of packages and of modules, and for the schedules of a package that the
+/// program chooses.
 pub fn one_answer()
     ensures one { (words : List (List ℕ)) (holds : Contents) → is_exact words ≡ true → IsOne (expected words (Some holds)) }
-    ensures agrees { (words : List (List ℕ)) (holds : Contents) → Agrees (expected words (Some holds)) }
+    ensures agrees { (words : List (List ℕ)) (holds : Contents) → is_settled words ≡ true → Agrees (expected words (Some holds)) }
 {
     crate::design::laws::one_answer();
     crate::ir::laws::one_answer();
@@ -19,6 +20,7 @@ pub fn one_answer()
     crate::schedule::laws::one_answer();
     crate::opt::laws::answers_agree();
     crate::verilog::laws::answers_agree();
+    crate::lowered::laws::answers_agree();
 }
 
 /// What a run gives is the same by any number of workers.

@@ -7,6 +7,7 @@
 pub mod design;
 pub mod ir;
 pub mod laws;
+pub mod lowered;
 pub mod opt;
 pub mod schedule;
 pub mod shared;

@@ -1,4 +1,4 @@
-//! The command `opt` of IR texts.
+//! The command `opt`.
 //!
 //! What it gives stands in `specs/Opt/Commands`.
 //!
@@ -7,4 +7,5 @@ mod command;
 pub mod laws;
 mod optimising;
 
-pub use command::opt_ir;
+pub use command::opt_file;
+pub use optimising::written;

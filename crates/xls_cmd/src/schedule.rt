@@ -1,4 +1,4 @@
-//! The command `schedule` of IR texts.
+//! The command `schedule`.
 //!
 //! What it gives stands in `specs/Schedule/Commands`.
 //!
@@ -7,5 +7,5 @@ mod command;
 pub mod laws;
 mod scheduling;
 
-pub use command::{demands_of, schedule_ir};
+pub use command::{demands_of, schedule_file};
 pub use scheduling::schedules_of;

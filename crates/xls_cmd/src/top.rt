@@ -4,21 +4,22 @@ ghost use Rattle.xls_cmd.specs.Shared.Answered.{IsAnswered};
 ghost use Rattle.xls_cmd.specs.Shared.Done.{IsDone};
 ghost use Rattle.xls_cmd.specs.Shared.Events.{file_events, sink_events};
 ghost use Rattle.xls_cmd.specs.Shared.Fault.{Fault as Cause};
-ghost use Rattle.xls_cmd.specs.Answer.{expected, expected_of, expected_of_opt, expected_of_run, expected_of_schedule, expected_of_verilog, files_of, files_of_opt, files_of_schedule, files_of_verilog, named_files, status_for};
+ghost use Rattle.xls_cmd.specs.Answer.{expected, expected_of, expected_of_run, expected_of_verilog, files_of, files_of_verilog, is_settled, named_files, status_for};
 ghost use Rattle.xls_cmd.specs.Design.Commands.{run_files};
 ghost use Rattle.xls_cmd.specs.Workers.{IsLeftToWorkers, has_workers, is_by_workers, wants_workers};
 ghost use Rattle.cmd_line.specs.Bounds.{IsInBounds, IsWorkerCount};
-ghost use Rattle.cmd_line.specs.Named.{named, named_opt, named_run, named_schedule, named_verilog};
+ghost use Rattle.cmd_line.specs.Named.{named, named_run, named_verilog};
 
 use crate::design::{check_design, run_design, run_design_alone};
 use crate::ir::{run_package, run_package_alone};
 use crate::laws::one_answer;
-use crate::opt::opt_ir;
-use crate::schedule::schedule_ir;
+use crate::lowered::ir_design;
+use crate::opt::opt_file;
+use crate::schedule::schedule_file;
 use crate::shared::{Fault, Refusal, respond};
 use crate::sim::sim_design;
 use crate::verilog::verilog_ir;
-use cmd_line::{Opt, Request, Run, Schedule, Source, Verilog, read_words};
+use cmd_line::{Request, Run, Source, Verilog, read_words};
 use std::alloc::Global;
 use std::sync::Wait;
 use std::thread::Threads;
@@ -44,8 +45,8 @@ pub fn xls_main<R: Threads + Wait + Sync, F: Files, O: Sink, E: Sink, G: Gate + 
         (sink_events O.written O.faults out.old out.new)
         (sink_events E.written E.faults err.old err.new) result }
 
-    // So what is expected is answered, but for want of memory, where no fault was counted.
-    ensures complete { IfSome (F.told files.old) (λ holds. (given : Result (List ℕ) Cause) → expected (map string_bytes words.now) (Some holds) given →
+    // So what is expected is answered, but for want of memory, where no fault was counted, and where the package isn't chosen.
+    ensures complete { IfSome (F.told files.old) (λ holds. (given : Result (List ℕ) Cause) → is_settled (map string_bytes words.now) ≡ true → expected (map string_bytes words.now) (Some holds) given →
         ¬ HasRisen (F.faults files.old) (F.faults files.new) → ¬ HasRisen (O.faults out.old) (O.faults out.new) →
         (result ≡ status_for given) ⊎ (result ≡ 3)) }
 {
@@ -70,7 +71,7 @@ pub fn answer_alone<F: Files, O: Sink, E: Sink>(
         (file_events F.asked F.faults F.taken files.old files.new)
         (sink_events O.written O.faults out.old out.new)
         (sink_events E.written E.faults err.old err.new) status) }
-    ensures complete { IfSome result (λ status. IfSome (F.told files.old) (λ holds. (given : Result (List ℕ) Cause) → expected (map string_bytes words.now) (Some holds) given →
+    ensures complete { IfSome result (λ status. IfSome (F.told files.old) (λ holds. (given : Result (List ℕ) Cause) → is_settled (map string_bytes words.now) ≡ true → expected (map string_bytes words.now) (Some holds) given →
         ¬ HasRisen (F.faults files.old) (F.faults files.new) → ¬ HasRisen (O.faults out.old) (O.faults out.new) →
         (status ≡ status_for given) ⊎ (status ≡ 3))) }
 {
@@ -96,7 +97,7 @@ fn answer<R: Threads + Wait + Sync, F: Files, O: Sink, E: Sink, G: Gate + Sync>(
         (file_events F.asked F.faults F.taken files.old files.new)
         (sink_events O.written O.faults out.old out.new)
         (sink_events E.written E.faults err.old err.new) result }
-    ensures complete { IfSome (F.told files.old) (λ holds. (given : Result (List ℕ) Cause) → expected (map string_bytes words.now) (Some holds) given →
+    ensures complete { IfSome (F.told files.old) (λ holds. (given : Result (List ℕ) Cause) → is_settled (map string_bytes words.now) ≡ true → expected (map string_bytes words.now) (Some holds) given →
         ¬ HasRisen (F.faults files.old) (F.faults files.new) → ¬ HasRisen (O.faults out.old) (O.faults out.new) →
         (result ≡ status_for given) ⊎ (result ≡ 3)) }
 {
@@ -138,9 +139,10 @@ fn requested_alone<'a, F: Files>(
         Request::Check(arguments) => Some(check_design(alloc, files, arguments)),
         Request::Run(arguments) => run_alone(alloc, files, arguments),
         Request::Sim(arguments) => Some(sim_design(alloc, files, arguments)),
-        Request::Schedule(arguments) => Some(schedule(alloc, files, arguments)),
-        Request::Opt(arguments) => Some(opt(alloc, files, arguments)),
+        Request::Schedule(arguments) => Some(schedule_file(alloc, files, arguments)),
+        Request::Opt(arguments) => Some(opt_file(alloc, files, arguments)),
         Request::Verilog(arguments) => Some(verilog(alloc, files, arguments)),
+        Request::Ir(arguments) => Some(ir_design(alloc, files, arguments)),
     }
 }
 
@@ -211,9 +213,10 @@ fn requested<'a, R: Threads + Wait + Sync, F: Files, G: Gate + Sync>(
         Request::Check(arguments) => check_design(alloc, files, arguments),
         Request::Run(arguments) => run(rt, alloc, files, arguments, gate),
         Request::Sim(arguments) => sim_design(alloc, files, arguments),
-        Request::Schedule(arguments) => schedule(alloc, files, arguments),
-        Request::Opt(arguments) => opt(alloc, files, arguments),
+        Request::Schedule(arguments) => schedule_file(alloc, files, arguments),
+        Request::Opt(arguments) => opt_file(alloc, files, arguments),
         Request::Verilog(arguments) => verilog(alloc, files, arguments),
+        Request::Ir(arguments) => ir_design(alloc, files, arguments),
     }
 }
 
@@ -232,37 +235,6 @@ fn run<'a, R: Threads + Wait + Sync, F: Files, G: Gate + Sync>(
     match arguments.how.source {
         Source::Dslx => run_design(rt, alloc, files, arguments, gate),
         Source::Ir => run_package(rt, alloc, files, arguments, gate),
-    }
-}
-
-/// The schedules of an IR text.
-fn schedule<'a, F: Files>(
-    alloc: Global,
-    files: &mut F,
-    arguments: Schedule<&'a str>,
-) -> Result<Vec<u8>, Refusal<'a>>
-    requires { 1 ≤ arguments.timing.stages }
-    ensures { IsDone (λ text. text.items) (expected_of_schedule (named_schedule arguments.entry) (F.told files.old)) (files_of_schedule (named_schedule arguments.entry))
-        (file_events F.asked F.faults F.taken files.old files.new) result }
-{
-    match arguments.source {
-        Source::Dslx => Err(Refusal::Fault(Fault::Usage)),
-        Source::Ir => schedule_ir(alloc, files, arguments),
-    }
-}
-
-/// The optimised package of an IR text.
-fn opt<'a, F: Files>(
-    alloc: Global,
-    files: &mut F,
-    arguments: Opt<&'a str>,
-) -> Result<Vec<u8>, Refusal<'a>>
-    ensures { IsDone (λ text. text.items) (expected_of_opt (named_opt arguments.entry) (F.told files.old)) (files_of_opt (named_opt arguments.entry))
-        (file_events F.asked F.faults F.taken files.old files.new) result }
-{
-    match arguments.source {
-        Source::Dslx => Err(Refusal::Fault(Fault::Usage)),
-        Source::Ir => opt_ir(alloc, files, arguments),
     }
 }
 

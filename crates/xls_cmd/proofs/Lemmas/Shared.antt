@@ -10,7 +10,7 @@ use Rattle.std.specs.Borrow.{Bor}
 use Rattle.xls_cmd.specs.declared.shared.fault.Fault as code
 use Rattle.xls_cmd.specs.Shared.Fault.{Fault, named, status_of}
 use Rattle.xls_cmd.specs.Shared.Step.{Then, goes_on, stops, IsOne, IsOfCommand, IsGivenByCommand, ExpectedBy, Gives}
-use Rattle.xls_cmd.specs.Shared.Agrees.{Agrees}
+use Rattle.xls_cmd.specs.Shared.Agrees.{AreAlike, Agrees}
 use Rattle.xls_cmd.specs.Shared.Loads.{Loads, whole, past_limit, OfText, accepts, rejects}
 use Rattle.xb_span.specs.declared.read_error.ReadError.{ReadError}
 use Rattle.xb_span.specs.declared.read_error.ReadError.TheVariants.{Syntax, Broken, Over, OutOfMemory}
@@ -59,12 +59,27 @@ same_err : {A : Type 0} (f g : Fault) → ◌≡◌ {A = Result A Fault} (Err f)
 same_err f g e = cc
 
 -- where the first step gives one thing, and what follows agrees, the whole agrees
-pub then_agrees : {A : Type 0} (first : Result A Fault → Type 0) (next : A → Result (List ℕ) Fault → Type 0) → IsOne first → ((x : A) → Agrees (next x)) → Agrees (Then first next)
+pub then_agrees : {A B : Type 0} (first : Result A Fault → Type 0) (next : A → Result B Fault → Type 0) → IsOne first → ((x : A) → Agrees (next x)) → Agrees (Then first next)
 then_agrees first next one each a b (goes_on x given here there) (goes_on y given' here' there') =
     each y given given' (subst (λ v. next v given) (same_ok x y (one (Ok x) (Ok y) here here')) there) there'
 then_agrees first next one each a b (goes_on x given here there) (stops fault stop) = absurd (ok_is_no_err x fault (one (Ok x) (Err fault) here stop))
 then_agrees first next one each a b (stops fault stop) (goes_on x given here there) = absurd (ok_is_no_err x fault (one (Ok x) (Err fault) here stop))
 then_agrees first next one each a b (stops fault stop) (stops fault' stop') = same_err fault fault' (one (Err fault) (Err fault') stop stop')
+
+-- where the first step agrees, and so does what follows whatever it gave, the whole agrees
+pub then_alike : {A B : Type 0} (first : Result A Fault → Type 0) (next : A → Result B Fault → Type 0) → Agrees first → ((x y : A) (a b : Result B Fault) → next x a → next y b → AreAlike a b) → Agrees (Then first next)
+then_alike first next agrees each a b (goes_on x given here there) (goes_on y given' here' there') = each x y given given' there there'
+then_alike first next agrees each a b (goes_on x given here there) (stops fault stop) = absurd (agrees (Ok x) (Err fault) here stop)
+then_alike first next agrees each a b (stops fault stop) (goes_on x given here there) = absurd (agrees (Err fault) (Ok x) stop here)
+then_alike first next agrees each a b (stops fault stop) (stops fault' stop') = agrees (Err fault) (Err fault') stop stop'
+
+alike_here : {A : Type 0} (a : Result A Fault) → AreAlike a a
+alike_here (Ok x) = tt
+alike_here (Err fault) = refl
+
+-- what gives one thing agrees
+pub one_agrees : {A : Type 0} (step : Result A Fault → Type 0) → IsOne step → Agrees step
+one_agrees step one a b is also = subst (AreAlike a) (one a b is also) (alike_here a)
 
 pub gives_is_one : {A : Type 0} (wanted : Result A Fault) → IsOne (Gives wanted)
 gives_is_one wanted a b is also = is ∙ sym also

@@ -120,7 +120,7 @@ inputs_is_one name file net a b (at_fault cause at is) (at_fault other place als
 abbrev pub OneModule : Type 0
 OneModule = (text : List ℕ) (t : Option (List ℕ)) (a b : Result Module ReadError) → GivesTree text t a → GivesTree text t b → a ≡ b
 
-module_is_one : OneModule → (name : List ℕ) (t : Option (List ℕ)) (bytes : List ℕ) → IsOne (ReadsModule name t bytes)
+pub module_is_one : OneModule → (name : List ℕ) (t : Option (List ℕ)) (bytes : List ℕ) → IsOne (ReadsModule name t bytes)
 module_is_one law name t bytes =
     then_is_one (Gives (text_of name bytes)) (λ text. OfText name (GivesTree text t)) (gives_is_one (text_of name bytes)) (λ text. of_text_is_one name (GivesTree text t) (law text t))
 

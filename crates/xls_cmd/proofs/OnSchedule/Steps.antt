@@ -1,5 +1,5 @@
 -- The steps of the command give one thing.
-use Rattle.std.proofs.Common.{◌≡◌, ℕ, List, Result, Ok, Err, ap}
+use Rattle.std.proofs.Common.{◌≡◌, ℕ, List, Option, Result, Ok, Err, ap}
 use Rattle.xb_io.specs.Contents.{Contents}
 use Rattle.xb_span.specs.declared.read_error.ReadError.{ReadError}
 use Rattle.xls_cmd.specs.declared.shared.fault.Fault.TheVariants as fault
@@ -7,6 +7,9 @@ use Rattle.xls_cmd.specs.Shared.Loads.{Loads, OfText, text_of}
 use Rattle.xls_cmd.specs.Shared.Step.{Gives, IsOne}
 use Rattle.xls_cmd.proofs.Lemmas.Shared.{gives_is_one, loads_is_one, of_text_is_one, then_is_one}
 use Rattle.cmd_line.specs.declared.request.Schedule.{Schedule as Said}
+use Rattle.cmd_line.specs.declared.request.Source.{Source}
+use Rattle.cmd_line.specs.declared.request.Source.TheVariants.{Dslx, Ir}
+use Rattle.xls_cmd.specs.Lowered.Commands.{GivesScheduledBy}
 use Rattle.xls_cmd.specs.Ir.Commands.{ReadsPackage}
 use Rattle.ir_tree.specs.declared.package.Proc.{Proc}
 use Rattle.ir_tree.specs.declared.package.Package.{Package}
@@ -42,11 +45,15 @@ texts_are_one : TheLaws → (ir : Package) (demands : Demands) → IsOne (GivesS
 texts_are_one laws ir demands =
     then_is_one (HasSchedules ir demands) (λ schedules. Gives (Ok (schedule_text ir schedules))) (schedules_are_one laws ir demands) (λ schedules. gives_is_one (Ok (schedule_text ir schedules)))
 
-loaded_is_one : TheLaws → (arguments : Said (List ℕ)) (bytes : List ℕ) → IsOne (schedule_loaded arguments bytes)
-loaded_is_one laws arguments bytes =
-    then_is_one (ReadsPackage arguments.design bytes) (λ ir. GivesSchedules ir (demands_of arguments.timing)) (package_is_one laws arguments.design bytes)
+scheduled_is_one : TheLaws → (source : Source) (name : List ℕ) (top : Option (List ℕ)) (bytes : List ℕ) → source ≡ Ir → IsOne (GivesScheduledBy source name top bytes)
+scheduled_is_one laws Dslx name top bytes is = absurd (cc)
+scheduled_is_one laws Ir name top bytes is = package_is_one laws name bytes
+
+loaded_is_one : TheLaws → (arguments : Said (List ℕ)) (bytes : List ℕ) → arguments.source ≡ Ir → IsOne (schedule_loaded arguments bytes)
+loaded_is_one laws arguments bytes is =
+    then_is_one (GivesScheduledBy arguments.source arguments.design arguments.top bytes) (λ ir. GivesSchedules ir (demands_of arguments.timing)) (scheduled_is_one laws arguments.source arguments.design arguments.top bytes is)
     (λ ir. texts_are_one laws ir (demands_of arguments.timing))
 
-pub schedule_is_one : TheLaws → (holds : Contents) (arguments : Said (List ℕ)) → IsOne (schedule holds arguments)
-schedule_is_one laws holds arguments =
-    then_is_one (Loads holds arguments.design) (λ bytes. schedule_loaded arguments bytes) (loads_is_one holds arguments.design) (λ bytes. loaded_is_one laws arguments bytes)
+pub schedule_is_one : TheLaws → (holds : Contents) (arguments : Said (List ℕ)) → arguments.source ≡ Ir → IsOne (schedule holds arguments)
+schedule_is_one laws holds arguments is =
+    then_is_one (Loads holds arguments.design) (λ bytes. schedule_loaded arguments bytes) (loads_is_one holds arguments.design) (λ bytes. loaded_is_one laws arguments bytes is)

@@ -1,4 +1,4 @@
--- The command `schedule` of an IR text, read from top to bottom: the order of the steps is the order of the causes.
+-- The command `schedule`, read from top to bottom: the order of the steps is the order of the causes.
 use Rattle.std.specs.Prelude.{◌≡◌, ℕ, List, [], ◌∷◌, Result, Ok, Err}
 use Rattle.xb_io.specs.Contents.{Contents}
 use Rattle.xls_cmd.specs.Shared.Fault.{Fault}
@@ -7,7 +7,7 @@ use Rattle.xls_cmd.specs.Shared.Step.{Step, Then, Gives}
 use Rattle.xls_cmd.specs.Shared.Loads.{Loads}
 use Rattle.cmd_line.specs.declared.request.Schedule.{Schedule as Said}
 use Rattle.cmd_line.specs.declared.request.Timing.{Timing}
-use Rattle.xls_cmd.specs.Ir.Commands.{ReadsPackage}
+use Rattle.xls_cmd.specs.Lowered.Commands.{GivesScheduledBy}
 use Rattle.ir_tree.specs.declared.package.Package.{Package}
 use Rattle.pipe_schedule.specs.declared.schedule.Demands.{Demands}
 use Rattle.pipe_schedule.specs.declared.schedule.Schedule.{Schedule}
@@ -30,9 +30,9 @@ GivesSchedules ir demands = Then (HasSchedules ir demands) (λ schedules. Gives 
 abbrev pub demands_of : Timing → Demands
 demands_of timing = record { clock = timing.clock; stages = timing.stages; interval = timing.interval }
 
--- `schedule --from ir`, once the file is loaded
+-- `schedule`, once the file is loaded
 abbrev pub schedule_loaded : Said (List ℕ) → List ℕ → Step (List ℕ)
-schedule_loaded arguments bytes = Then (ReadsPackage arguments.design bytes) (λ ir. GivesSchedules ir (demands_of arguments.timing))
+schedule_loaded arguments bytes = Then (GivesScheduledBy arguments.source arguments.design arguments.top bytes) (λ ir. GivesSchedules ir (demands_of arguments.timing))
 
 abbrev pub schedule : Contents → Said (List ℕ) → Step (List ℕ)
 schedule holds arguments = Then (Loads holds arguments.design) (λ bytes. schedule_loaded arguments bytes)

@@ -5,15 +5,15 @@ ghost use Rattle.xls_cmd.specs.Shared.Step.{ExpectedBy};
 ghost use Rattle.cmd_line.specs.Named.{named_opt};
 ghost use Rattle.xls_cmd.specs.Opt.Commands.{opt, opt_files, opt_loaded};
 
-use crate::ir::read_package;
+use crate::lowered::package_by;
 use crate::opt::optimising::optimised;
 use crate::shared::{Refusal, load};
 use cmd_line::Opt;
 use std::alloc::Global;
 use xb_io::Files;
 
-/// `opt FILE --from ir`
-pub fn opt_ir<'a, F: Files>(
+/// `opt FILE [--from F] [--top NAME]`
+pub fn opt_file<'a, F: Files>(
     alloc: Global,
     files: &mut F,
     arguments: Opt<&'a str>,
@@ -36,7 +36,13 @@ fn opt_loaded<'a>(
     ensures gives { IfOk result (λ text. opt_loaded (named_opt arguments.now) bytes.now (Ok text.items)) }
     ensures refused { IfErr result (StopsBy (opt_loaded (named_opt arguments.now) bytes.now)) }
 {
-    let ir = read_package(alloc, arguments.design, bytes)?;
+    let ir = package_by(
+        alloc,
+        arguments.source,
+        arguments.design,
+        arguments.top,
+        bytes,
+    )?;
     let text = optimised(alloc, ir)?;
     Ok(text)
 }

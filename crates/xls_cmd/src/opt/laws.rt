@@ -11,5 +11,6 @@ ghost use Rattle.xls_cmd.specs.Shared.Agrees.{Agrees};
 pub fn answers_agree()
     ensures { (holds : Contents) (arguments : Opt (List ℕ)) → Agrees (opt holds arguments) }
 {
+    dslx::one_module();
     ir_text::parser::one_package();
 }

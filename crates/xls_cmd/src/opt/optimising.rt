@@ -23,7 +23,7 @@ pub fn optimised(alloc: Global, ir: Package) -> Result<Vec<u8>, AllocError>
 }
 
 /// What is written of a package, which is read again as that package.
-fn written(alloc: Global, ir: &Package) -> Result<Vec<u8>, AllocError>
+pub fn written(alloc: Global, ir: &Package) -> Result<Vec<u8>, AllocError>
     requires { IsVerified ir.now }
     ensures text { IfOk result (λ text. text.items ≡ package_text ir.now) }
     ensures again { IfOk result (λ text. length text.items < 2 ^ 32 → GivesPackage text.items (Ok ir.now)) }

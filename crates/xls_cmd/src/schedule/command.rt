@@ -5,7 +5,7 @@ ghost use Rattle.xls_cmd.specs.Shared.Step.{ExpectedBy};
 ghost use Rattle.cmd_line.specs.Named.{named_schedule};
 ghost use Rattle.xls_cmd.specs.Schedule.Commands.{demands_of, schedule, schedule_files, schedule_loaded};
 
-use crate::ir::read_package;
+use crate::lowered::package_to_schedule;
 use crate::schedule::scheduling::scheduled;
 use crate::shared::{Refusal, load};
 use cmd_line::{Schedule, Timing};
@@ -13,8 +13,8 @@ use pipe_schedule::Demands;
 use std::alloc::Global;
 use xb_io::Files;
 
-/// `schedule FILE --clock PS [--stages N] [--ii N] --from ir`
-pub fn schedule_ir<'a, F: Files>(
+/// `schedule FILE --clock PS [--stages N] [--ii N] [--from F] [--top NAME]`
+pub fn schedule_file<'a, F: Files>(
     alloc: Global,
     files: &mut F,
     arguments: Schedule<&'a str>,
@@ -39,7 +39,13 @@ fn schedule_loaded<'a>(
     ensures gives { IfOk result (λ text. schedule_loaded (named_schedule arguments.now) bytes.now (Ok text.items)) }
     ensures refused { IfErr result (StopsBy (schedule_loaded (named_schedule arguments.now) bytes.now)) }
 {
-    let ir = read_package(alloc, arguments.design, bytes)?;
+    let ir = package_to_schedule(
+        alloc,
+        arguments.source,
+        arguments.design,
+        arguments.top,
+        bytes,
+    )?;
     scheduled(alloc, &ir, demands_of(arguments.timing))
 }
 

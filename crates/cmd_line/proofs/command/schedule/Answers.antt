@@ -1,7 +1,8 @@
 use Rattle.std.specs.Prelude.{codes}
-use Rattle.cmd_line.specs.CommandLine.{from, scheduling}
+use Rattle.cmd_line.specs.CommandLine.{from, scheduling, top}
 use Rattle.cmd_line.proofs.command.schedule.Goals as goal
 
 pub returns-clause-app : goal.returns-clause-app
 returns-clause-app c =
-    c.with_arg.ensures.app (scheduling (codes "schedule")) from c.scheduling-built.ensures.app c.from.ensures.rule c.from.ensures.local
+    let first = c.with_arg-built.ensures.app (scheduling (codes "schedule")) from c.scheduling-built.ensures.app c.from.ensures.rule c.from.ensures.local in
+    c.with_arg.ensures.app _ top first c.top.ensures.rule c.top.ensures.local

@@ -8,8 +8,9 @@ returns-clause-one c = expected_is_one (record {
   run_ir = c.one_answer-2.ensures;
   sim = c.one_answer-3.ensures;
   schedule_ir = c.one_answer-4.ensures;
-  opt_ir = c.answers_agree.ensures;
+  opt = c.answers_agree.ensures;
   verilog_ir = c.answers_agree-2.ensures;
+  ir = c.answers_agree-3.ensures;
 })
 
 pub returns-clause-agrees : goal.returns-clause-agrees
@@ -19,6 +20,7 @@ returns-clause-agrees c = expected_agrees (record {
   run_ir = c.one_answer-2.ensures;
   sim = c.one_answer-3.ensures;
   schedule_ir = c.one_answer-4.ensures;
-  opt_ir = c.answers_agree.ensures;
+  opt = c.answers_agree.ensures;
   verilog_ir = c.answers_agree-2.ensures;
+  ir = c.answers_agree-3.ensures;
 })

@@ -1,0 +1,6 @@
+-- what is promised of a checked text that is lowered
+pub mod Lowered
+-- words that no lowered proc receives
+pub mod Deep
+-- what functions of this crate promise to one another, and nobody else needs
+pub mod Inner

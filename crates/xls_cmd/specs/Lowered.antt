@@ -1,0 +1,2 @@
+-- the package of a design, and the command `ir`
+pub mod Commands
