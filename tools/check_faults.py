@@ -33,6 +33,8 @@ WORKING = [
     "designs/run",
     "dslx/two_procs_that_wait",
     "ir/two_procs_deeper",
+    "words/ir",
+    "designs/optimised_design",
     "schedule/schedule",
     "opt/optimised_package",
     "verilog/pipeline_of_three_stages",
