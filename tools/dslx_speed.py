@@ -71,7 +71,7 @@ fn cut_text(rt: &HostRuntime, text: &str) -> io::Result<()>
 }
 """
 
-LINE = "dslx_speed: dslx_parser dslx_token dslx_tree grammar dslx_grammar xb_span\n"
+LINE = "dslx_speed: dslx_parser dslx_token dslx_tree base xb_span\n"
 
 DECLARED = """struct Config { base: u32, limit: u32 }
 fn default_config() -> Config { Config { base: u32:0, limit: u32:0 } }

@@ -1,11 +1,11 @@
 #!/usr/bin/env python3
-"""Writes the tables of a grammar from its text, for a crate over the crate `grammar`.
+"""Writes the tables of a grammar from its text, for a crate over `base::grammar`.
 
 usage: grammar_tables.py GRAMMAR CRATE[/MODULE] [--kinds WHOLE OWNER] [--check]
 
 GRAMMAR has a line `name = symbols | symbols | ..` for each nonterminal, the start first. An alternative with no
 symbols derives nothing, `#` starts a comment, and an indented line goes on with the one above it. A symbol with no
-line of its own is a kind of token. In the module MODULE of CRATE, the folder of a crate (crates/NAME), it writes
+line of its own is a kind of token. In the module MODULE (A/B where it is nested) of CRATE, the folder of a crate (crates/NAME), it writes
 src/MODULE/generated/: `kind.rt`, `nonterminal.rt` and `production.rt`, which name the numbers, and `tables.rt`; and
 specs/MODULE/Rules.antt, the rules by these names. Without a module they stand in src/ and specs/ of the crate itself. With --check nothing is written, and the exit status says whether these files are what would be written.
 
@@ -120,8 +120,8 @@ def tables(grammar, source, owner):
     bit = {name: i for i, name in enumerate(grammar.kinds)}
     heads = [head for head, _ in grammar.productions]
     names = ['use super::nonterminal;', 'use %s::kind;' % owner.replace('/', '::')] if owner else ['use super::{kind, nonterminal};']
-    out = ['//! ' + first_line(source), '//!', '//! The tables of the grammar.', '', *names, 'use grammar::Symbol::{Nonterminal, Terminal};',
-            'use grammar::{Production, Span, Symbol};', '',
+    out = ['//! ' + first_line(source), '//!', '//! The tables of the grammar.', '', *names, 'use base::grammar::Symbol::{Nonterminal, Terminal};',
+            'use base::grammar::{Production, Span, Symbol};', '',
            '/// The bodies of the productions, one behind the other.',
            'pub static SYMBOLS: [Symbol; %d] = [' % sum(len(body) for _, body in grammar.productions)]
     for head, body in grammar.productions:
@@ -155,14 +155,14 @@ def rules(grammar, names, source, crate, owner):
     """The rules by their names, as a definition for the prover; crate and owner are CRATE or CRATE/MODULE."""
     def declared(home, name):
         crate, _, module = home.partition('/')
-        path = '.'.join([crate, 'specs.declared', *([module] if module else []), 'generated', name])
+        path = '.'.join([crate, 'specs.declared', *(module.split('/') if module else []), 'generated', name])
         return 'use Rattle.%s.TheConstants as %s' % (path, name)
 
     out = ['-- ' + first_line(source),
            '-- The rules of the grammar by their names.',
            'use Rattle.std.specs.Prelude.{ℕ, List, [], ◌∷◌}',
-           'use Rattle.grammar.specs.Syntax.{NamedRule, named}',
-           'use Rattle.grammar.specs.declared.table.Symbol.TheVariants.{Terminal, Nonterminal}',
+           'use Rattle.base.specs.Grammar.Syntax.{NamedRule, named}',
+           'use Rattle.base.specs.declared.grammar.table.Symbol.TheVariants.{Terminal, Nonterminal}',
            declared(owner or crate, 'kind'), declared(crate, 'nonterminal'), declared(crate, 'production'), '']
     if not owner:
         out += ['-- the kinds of token by their names, in the order of these names, with the end mark behind them',
@@ -187,7 +187,7 @@ def files(grammar, source, crate, owner):
     heads = [(name.upper(), None) for name in grammar.nonterminals]
     module = crate.partition('/')[2]
     generated = 'src/%s/generated/' % module if module else 'src/generated/'
-    named = 'specs/%s/Rules.antt' % module.capitalize() if module else 'specs/Rules.antt'
+    named = 'specs/%s/Rules.antt' % '/'.join(map(str.capitalize, module.split('/'))) if module else 'specs/Rules.antt'
     return {
         **({} if owner else {generated + 'kind.rt': kinds}),
         generated + 'nonterminal.rt': constants('The nonterminals', source, 'u8', heads),

@@ -1,7 +1,9 @@
-//! What every layer stands on: laws of lists, texts, stacks, and tables of names.
+//! What every layer stands on: lists, texts, stacks, name tables, orders, readers from grammars.
 #![tactic(auto)]
 
+pub mod grammar;
 pub mod lists;
 pub mod name_table;
 pub mod stacks;
 pub mod texts;
+pub mod topo_order;

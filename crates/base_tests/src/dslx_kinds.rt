@@ -1,8 +1,8 @@
 //! The grammar of DSLX: derivations of constants, functions, procs and operators, and indices of faults.
 
+use base::grammar::ParseError;
 use dslx_token::rules::kind::*;
 use dslx_token::rules::{parse, parse_tree, production};
-use grammar::ParseError;
 use std::alloc::Global;
 use std::test::Fail;
 

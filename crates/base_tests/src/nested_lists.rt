@@ -1,10 +1,12 @@
 //! A toy grammar of nested lists, `(a, (), a,)`, and its texts.
 
 ghost use Rattle.std.specs.Prelude.{◌≡◌};
-ghost use Rattle.grammar.specs.Ll1.{IsLl1};
+ghost use Rattle.base.specs.Grammar.Ll1.{IsLl1};
 
-use grammar::Symbol::{Nonterminal, Terminal};
-use grammar::{Grammar, ParseError, Production, Span, Step, Symbol, parse, parse_tree, steps};
+use base::grammar::Symbol::{Nonterminal, Terminal};
+use base::grammar::{
+    Grammar, ParseError, Production, Span, Step, Symbol, parse, parse_tree, steps,
+};
 use std::alloc::Global;
 use std::test::Fail;
 
@@ -97,7 +99,7 @@ static SPANS: [Span; 4] = [
     Span { first: 5, end: 7 },
 ];
 
-#[tactic(auto, unfolding(grammar::specs::Ll1::is_ll1))]
+#[tactic(auto, unfolding(base::specs::Grammar::Ll1::is_ll1))]
 fn lists() -> Grammar<'static>
     ensures valid { IsLl1 result }
     ensures end { result.end ≡ END }

@@ -1,8 +1,8 @@
 //! Orders of things by what they need, worked by hand.
 
+use base::topo_order::{Sorted, needing_themselves, sort};
 use sqlite_items::Items;
 use std::test::Fail;
-use topo_order::{Sorted, needing_themselves, sort};
 
 #[test]
 fn things_stand_behind_what_they_need(rt: HostRuntime) -> Result<(), Fail> {

@@ -4,3 +4,5 @@ pub mod Prefixes
 pub mod Exact
 -- for the crates above
 pub mod Lemmas
+-- netlists of pipelined hardware: lists of wires over ports and registers, and what they carry
+pub mod OnNetlist

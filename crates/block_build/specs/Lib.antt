@@ -4,3 +4,5 @@ pub mod Block
 pub mod Rows
 -- a block that is always fed, and whose words are always taken
 pub mod Fed
+-- netlists of pipelined hardware: lists of wires over ports and registers, and what they carry
+pub mod Netlist

@@ -18,26 +18,26 @@ use Rattle.vlog_tree.specs.declared.module.VModule.{VModule}
 use Rattle.vlog_tree.specs.declared.module.Port.{Port}
 use Rattle.vlog_tree.specs.declared.module.Declaration.{Declaration}
 use Rattle.vlog_tree.specs.Signals.{Declared, declared_own, declared_port}
-use Rattle.ir_verify.specs.Verified.{IsVerified}
+use Rattle.ir_tree.specs.Rules.Verified.{IsVerified}
 use Rattle.vlog_tree.specs.Value.{Values, atom_value, expr_value}
 use Rattle.xb_span.specs.declared.limit.Limit.{Limit}
-use Rattle.block_netlist.specs.declared.fifos.ChannelEnds.{ChannelEnds}
-use Rattle.block_netlist.specs.declared.fifos.ChannelView.{ChannelView}
-use Rattle.block_netlist.specs.declared.fifos.Fifo.{Fifo}
-use Rattle.block_netlist.specs.declared.registers.Register.{Register}
-use Rattle.block_netlist.specs.declared.registers.RegisterList.{RegisterList}
-use Rattle.block_netlist.specs.declared.wires.WireList.{WireList}
-use Rattle.block_netlist.specs.Added.{next_number, AddsWires, PutsNet}
-use Rattle.block_netlist.specs.Gates.{net, not_gate}
-use Rattle.block_netlist.specs.Registers.{next_register, Lays}
-use Rattle.block_pipelines.specs.declared.layout.ProcLayout.{ProcLayout}
-use Rattle.block_pipelines.specs.declared.pipelines.ProcWires.{ProcWires}
-use Rattle.block_module.specs.Each.{EachFrom}
-use Rattle.block_netlist.specs.Wires.{Wire}
-use Rattle.block_module.specs.Assembly.{IsAssembled, own_name, port_drivers, registers_declared, wires_declared}
-use Rattle.block_module.specs.Ports.{flat_bits, module_ports, ports_from}
-use Rattle.block_module.specs.Queues.{fifo_by, IsShown, ViewIs, all_registers, all_next, fifos_from, IsViewOf, IsViewed, AreShown, FifosGo}
-use Rattle.block_module.proofs.Lemmas.Each.{each_at}
+use Rattle.block_build.specs.declared.netlist.fifos.ChannelEnds.{ChannelEnds}
+use Rattle.block_build.specs.declared.netlist.fifos.ChannelView.{ChannelView}
+use Rattle.block_build.specs.declared.netlist.fifos.Fifo.{Fifo}
+use Rattle.block_build.specs.declared.netlist.registers.Register.{Register}
+use Rattle.block_build.specs.declared.netlist.registers.RegisterList.{RegisterList}
+use Rattle.block_build.specs.declared.netlist.wires.WireList.{WireList}
+use Rattle.block_build.specs.Netlist.Added.{next_number, AddsWires, PutsNet}
+use Rattle.block_build.specs.Netlist.Gates.{net, not_gate}
+use Rattle.block_build.specs.Netlist.Registers.{next_register, Lays}
+use Rattle.block_verilog.specs.declared.pipelines.layout.ProcLayout.{ProcLayout}
+use Rattle.block_verilog.specs.declared.pipelines.pipelines.ProcWires.{ProcWires}
+use Rattle.block_verilog.specs.Each.{EachFrom}
+use Rattle.block_build.specs.Netlist.Wires.{Wire}
+use Rattle.block_verilog.specs.Assembly.{IsAssembled, own_name, port_drivers, registers_declared, wires_declared}
+use Rattle.block_verilog.specs.Ports.{flat_bits, module_ports, ports_from}
+use Rattle.block_verilog.specs.Queues.{fifo_by, IsShown, ViewIs, all_registers, all_next, fifos_from, IsViewOf, IsViewed, AreShown, FifosGo}
+use Rattle.block_verilog.proofs.Lemmas.Each.{each_at}
 use Rattle.block_verilog.proofs.OnMade.{is_there}
 use Rattle.block_verilog.proofs.OnPut.{ports_long, fifos_long, same_many, laid_many, put_together}
 use Rattle.block_verilog.specs.Modules.{IsMadeOfParts, IsOwnName, is_deep, limit_of, IsFirstTooDeep, NoneTooDeep, HaveSlots, AreFifoDepths, AreScheduled}

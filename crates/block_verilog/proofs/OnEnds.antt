@@ -15,18 +15,18 @@ use Rattle.ir_tree.specs.Activations.{sites_of, sites_by}
 use Rattle.ir_tree.specs.NodeValues.{role_of}
 use Rattle.vlog_tree.specs.declared.expression.Atom.{Atom}
 use Rattle.vlog_tree.specs.Value.{Values}
-use Rattle.block_netlist.specs.declared.fifos.ChannelEnds.{ChannelEnds}
-use Rattle.block_netlist.specs.declared.sites.Handshake.{Handshake}
-use Rattle.block_netlist.specs.declared.sites.Site.{Site as SiteSignals}
-use Rattle.block_netlist.specs.declared.wires.WireList.{WireList}
-use Rattle.block_netlist.specs.Added.{next_number, AddsWires, Puts}
-use Rattle.block_netlist.specs.Ends.{some_wires, some_net, word_wires, word_net}
-use Rattle.block_netlist.specs.Literals.{literal_atom}
-use Rattle.block_netlist.specs.Requests.{requests_at}
-use Rattle.block_netlist.specs.Wires.{AreWired}
-use Rattle.block_pipelines.specs.declared.pipelines.ProcWires.{ProcWires}
-use Rattle.block_module.specs.Ports.{flat_bits}
-use Rattle.block_module.proofs.Lemmas.Each.{behind_there}
+use Rattle.block_build.specs.declared.netlist.fifos.ChannelEnds.{ChannelEnds}
+use Rattle.block_build.specs.declared.netlist.sites.Handshake.{Handshake}
+use Rattle.block_build.specs.declared.netlist.sites.Site.{Site as SiteSignals}
+use Rattle.block_build.specs.declared.netlist.wires.WireList.{WireList}
+use Rattle.block_build.specs.Netlist.Added.{next_number, AddsWires, Puts}
+use Rattle.block_build.specs.Netlist.Ends.{some_wires, some_net, word_wires, word_net}
+use Rattle.block_build.specs.Netlist.Literals.{literal_atom}
+use Rattle.block_build.specs.Netlist.Requests.{requests_at}
+use Rattle.block_build.specs.Netlist.Wires.{AreWired}
+use Rattle.block_verilog.specs.declared.pipelines.pipelines.ProcWires.{ProcWires}
+use Rattle.block_verilog.specs.Ports.{flat_bits}
+use Rattle.block_verilog.proofs.Lemmas.Each.{behind_there}
 use Rattle.block_verilog.specs.Sides.{stands_at, has_site, proc_at, SomeStands, WordStands, SomeAt, WordAt, EndsAt, IsEnd}
 
 or_false : (b : Bool) → b ≡ (b || false)

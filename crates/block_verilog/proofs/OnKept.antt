@@ -14,17 +14,17 @@ use Rattle.ir_tree.specs.Activations.{width_at}
 use Rattle.ir_tree.specs.NodeValues.{channel_type, role_of, count_sites, next_site}
 use Rattle.vlog_tree.specs.declared.expression.Atom.{Atom}
 use Rattle.vlog_tree.specs.Value.{Values, atom_value}
-use Rattle.block_netlist.specs.declared.fifos.ChannelView.{ChannelView}
-use Rattle.block_netlist.specs.declared.layout.SiteRegisters.{SiteRegisters}
-use Rattle.block_netlist.specs.declared.registers.Register.{Register}
-use Rattle.block_netlist.specs.declared.sites.Site.{Site}
-use Rattle.block_netlist.specs.Nodes.{site_index}
-use Rattle.block_netlist.specs.ProcRegisters.{channel_bits, site_registers, sites_registers, site_at, sites_at}
-use Rattle.block_netlist.specs.Registers.{zero_register}
-use Rattle.block_procs.specs.Nodes.{channel_view, NodeMade, NodePut, IsSiteAt}
-use Rattle.block_procs.specs.Registers.{registers_of_site, no_registers, given_or}
-use Rattle.block_pipelines.specs.Nets.{ProcParts, ArePut, PartsDriven, KeepsWord, KeepsWords, proc_nets, no_site, pipeline_nets}
-use Rattle.block_pipelines.specs.Pipelines.{proc_registers, RegistersStand}
+use Rattle.block_build.specs.declared.netlist.fifos.ChannelView.{ChannelView}
+use Rattle.block_build.specs.declared.netlist.layout.SiteRegisters.{SiteRegisters}
+use Rattle.block_build.specs.declared.netlist.registers.Register.{Register}
+use Rattle.block_build.specs.declared.netlist.sites.Site.{Site}
+use Rattle.block_build.specs.Netlist.Nodes.{site_index}
+use Rattle.block_build.specs.Netlist.ProcRegisters.{channel_bits, site_registers, sites_registers, site_at, sites_at}
+use Rattle.block_build.specs.Netlist.Registers.{zero_register}
+use Rattle.block_verilog.specs.Signals.Nodes.{channel_view, NodeMade, NodePut, IsSiteAt}
+use Rattle.block_verilog.specs.Signals.Registers.{registers_of_site, no_registers, given_or}
+use Rattle.block_verilog.specs.Pipelines.Nets.{ProcParts, ArePut, PartsDriven, KeepsWord, KeepsWords, proc_nets, no_site, pipeline_nets}
+use Rattle.block_verilog.specs.Pipelines.Pipelines.{proc_registers, RegistersStand}
 
 -- ---- lists
 

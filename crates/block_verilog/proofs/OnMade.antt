@@ -25,9 +25,9 @@ use Rattle.ir_tree.specs.Activations.{sites_of, sites_by, width_at}
 use Rattle.ir_tree.specs.Networks.{network_of, head_of, chan_of, kind_of}
 use Rattle.ir_tree.specs.NodeValues.{channel_type, role_of}
 use Rattle.ir_tree.specs.Types.{ty_of}
-use Rattle.ir_verify.specs.Typed.Typed.{IsWordType}
-use Rattle.ir_verify.specs.Verified.{IsVerified}
-use Rattle.ir_verify.proofs.Lemmas.Typed.{verified_proc}
+use Rattle.ir_tree.specs.Rules.Typed.Typed.{IsWordType}
+use Rattle.ir_tree.specs.Rules.Verified.{IsVerified}
+use Rattle.ir_tree.proofs.Lemmas.Rules.Typed.{verified_proc}
 use Rattle.vlog_tree.specs.declared.expression.Atom.{Atom}
 use Rattle.vlog_tree.specs.declared.module.VModule.{VModule}
 use Rattle.vlog_tree.specs.declared.row.Drive.{Drive}
@@ -37,29 +37,29 @@ use Rattle.vlog_tree.specs.Signals.{signals, declared_widths, declared_port}
 use Rattle.vlog_tree.specs.Value.{Values, bit, atom_value}
 use Rattle.block_build.specs.Block.{Block, run_of, receiver_of}
 use Rattle.block_build.specs.Rows.{sender_of, depth_of}
-use Rattle.block_netlist.specs.declared.fifos.ChannelEnds.{ChannelEnds}
-use Rattle.block_netlist.specs.declared.fifos.ChannelView.{ChannelView}
-use Rattle.block_netlist.specs.declared.fifos.Fifo.{Fifo}
-use Rattle.block_netlist.specs.declared.registers.Register.{Register}
-use Rattle.block_netlist.specs.Blocks.{BlockNets, PipelineNets, ChannelNets, AllPartnersMade, ReaderMade, WriterMade, FifoMade, BlockMade, SidesShown, OuterShown, PortShown}
-use Rattle.block_netlist.specs.Buffers.{fifo_slot, fifo_nets, view_at}
-use Rattle.block_netlist.specs.Gates.{net}
-use Rattle.block_netlist.specs.Holding.{PipelineMade}
-use Rattle.block_netlist.specs.Literals.{literal_atom}
-use Rattle.block_netlist.specs.Nodes.{site_index}
-use Rattle.block_netlist.specs.Order.{CarriesWord}
-use Rattle.block_netlist.specs.ProcRegisters.{channel_bits}
-use Rattle.block_netlist.specs.Registers.{zero_register, laid_fifo}
-use Rattle.block_procs.specs.Nodes.{channel_view, nothing_there, number_of}
-use Rattle.block_procs.specs.Registers.{registers_of_site, given_or}
-use Rattle.block_schedule.specs.Pipelines.{AreLegal, block_of, pipeline_of, pipelines_of}
-use Rattle.block_pipelines.specs.Nets.{ProcParts, ArePut, PartsDriven, KeepsWords, ShowsView, pipeline_nets}
-use Rattle.block_module.specs.Each.{EachFrom}
-use Rattle.block_module.specs.Outside.{drive_at, word_offered, room_given, PortGiven}
-use Rattle.block_module.specs.Ports.{data_bits, flat_bits, module_ports, count_ports, ports_from}
-use Rattle.block_module.specs.Queues.{registers_at, all_registers, fifos_from, no_ends, input_view, output_view, IsShown, ViewIs, ShownBy, ViewedBy, IsViewOf, IsViewed, FifoGoes, GoesBy, GoesAt}
-use Rattle.block_module.proofs.Lemmas.Each.{each_at}
-use Rattle.block_module.proofs.Lemmas.Fifos.{FifoThere, fifo_there, fifo_made}
+use Rattle.block_build.specs.declared.netlist.fifos.ChannelEnds.{ChannelEnds}
+use Rattle.block_build.specs.declared.netlist.fifos.ChannelView.{ChannelView}
+use Rattle.block_build.specs.declared.netlist.fifos.Fifo.{Fifo}
+use Rattle.block_build.specs.declared.netlist.registers.Register.{Register}
+use Rattle.block_build.specs.Netlist.Blocks.{BlockNets, PipelineNets, ChannelNets, AllPartnersMade, ReaderMade, WriterMade, FifoMade, BlockMade, SidesShown, OuterShown, PortShown}
+use Rattle.block_build.specs.Netlist.Buffers.{fifo_slot, fifo_nets, view_at}
+use Rattle.block_build.specs.Netlist.Gates.{net}
+use Rattle.block_build.specs.Netlist.Holding.{PipelineMade}
+use Rattle.block_build.specs.Netlist.Literals.{literal_atom}
+use Rattle.block_build.specs.Netlist.Nodes.{site_index}
+use Rattle.block_build.specs.Netlist.Order.{CarriesWord}
+use Rattle.block_build.specs.Netlist.ProcRegisters.{channel_bits}
+use Rattle.block_build.specs.Netlist.Registers.{zero_register, laid_fifo}
+use Rattle.block_verilog.specs.Signals.Nodes.{channel_view, nothing_there, number_of}
+use Rattle.block_verilog.specs.Signals.Registers.{registers_of_site, given_or}
+use Rattle.block_verilog.specs.Schedule.Pipelines.{AreLegal, block_of, pipeline_of, pipelines_of}
+use Rattle.block_verilog.specs.Pipelines.Nets.{ProcParts, ArePut, PartsDriven, KeepsWords, ShowsView, pipeline_nets}
+use Rattle.block_verilog.specs.Each.{EachFrom}
+use Rattle.block_verilog.specs.Outside.{drive_at, word_offered, room_given, PortGiven}
+use Rattle.block_verilog.specs.Ports.{data_bits, flat_bits, module_ports, count_ports, ports_from}
+use Rattle.block_verilog.specs.Queues.{registers_at, all_registers, fifos_from, no_ends, input_view, output_view, IsShown, ViewIs, ShownBy, ViewedBy, IsViewOf, IsViewed, FifoGoes, GoesBy, GoesAt}
+use Rattle.block_verilog.proofs.Lemmas.Each.{each_at}
+use Rattle.block_verilog.proofs.Lemmas.Fifos.{FifoThere, fifo_there, fifo_made}
 use Rattle.block_verilog.specs.Modules.{IsMadeOfParts}
 use Rattle.block_verilog.specs.Parts.{BlockParts, IsBlockPut, IsBlockDriven, block_nets, block_registers, channel_nets, fifo_or, registers_of}
 use Rattle.block_verilog.proofs.OnKept.{left_there, right_there, word_of, ReadsWords, keeps_words}

@@ -15,20 +15,20 @@ use Rattle.ir_tree.specs.Types.{ty_of}
 use Rattle.vlog_tree.specs.declared.module.VModule.{VModule}
 use Rattle.vlog_tree.specs.declared.signal.Role.TheVariants.{InputSignal, RegisterSignal}
 use Rattle.vlog_tree.specs.Signals.{Declared, signals, declared_port, declared_own, declared_widths}
-use Rattle.block_netlist.specs.declared.fifos.Fifo.{Fifo}
-use Rattle.block_netlist.specs.declared.registers.Register.{Register}
-use Rattle.block_netlist.specs.declared.wires.WireList.{WireList}
-use Rattle.block_netlist.specs.declared.registers.RegisterList.{RegisterList}
-use Rattle.block_netlist.specs.Leaves.{leaf_widths}
-use Rattle.block_netlist.specs.Nodes.{site_index}
-use Rattle.block_netlist.specs.ProcRegisters.{channel_bits, state_registers, full_registers, sites_registers, copy_registers, nodes_registers}
-use Rattle.block_netlist.specs.Registers.{zero_register, count_bits, laid_fifo}
-use Rattle.block_procs.specs.Registers.{registers_of_site, no_registers, given_or}
-use Rattle.block_pipelines.specs.Nets.{ProcParts, ArePut}
-use Rattle.block_pipelines.specs.Pipelines.{IsLaidOut, proc_registers}
-use Rattle.block_module.specs.Assembly.{IsAssembled, own_name, registers_declared, wires_declared}
-use Rattle.block_module.specs.Ports.{declared, data_bits, flat_bits, ports_by, ports_of, module_ports, count_ports, ports_from}
-use Rattle.block_module.specs.Queues.{fifo_registers, fifo_by, registers_at, all_registers, fifos_from}
+use Rattle.block_build.specs.declared.netlist.fifos.Fifo.{Fifo}
+use Rattle.block_build.specs.declared.netlist.registers.Register.{Register}
+use Rattle.block_build.specs.declared.netlist.wires.WireList.{WireList}
+use Rattle.block_build.specs.declared.netlist.registers.RegisterList.{RegisterList}
+use Rattle.block_build.specs.Netlist.Leaves.{leaf_widths}
+use Rattle.block_build.specs.Netlist.Nodes.{site_index}
+use Rattle.block_build.specs.Netlist.ProcRegisters.{channel_bits, state_registers, full_registers, sites_registers, copy_registers, nodes_registers}
+use Rattle.block_build.specs.Netlist.Registers.{zero_register, count_bits, laid_fifo}
+use Rattle.block_verilog.specs.Signals.Registers.{registers_of_site, no_registers, given_or}
+use Rattle.block_verilog.specs.Pipelines.Nets.{ProcParts, ArePut}
+use Rattle.block_verilog.specs.Pipelines.Pipelines.{IsLaidOut, proc_registers}
+use Rattle.block_verilog.specs.Assembly.{IsAssembled, own_name, registers_declared, wires_declared}
+use Rattle.block_verilog.specs.Ports.{declared, data_bits, flat_bits, ports_by, ports_of, module_ports, count_ports, ports_from}
+use Rattle.block_verilog.specs.Queues.{fifo_registers, fifo_by, registers_at, all_registers, fifos_from}
 use Rattle.block_verilog.specs.Parts.{ArePutFrom, registers_of}
 use Rattle.block_verilog.proofs.OnKept.{left_there, right_there, kept_there, KeptOf}
 

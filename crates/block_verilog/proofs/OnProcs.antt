@@ -7,20 +7,20 @@ use Rattle.ir_tree.specs.declared.package.Channel.{Channel}
 use Rattle.ir_tree.specs.declared.package.Proc.{Proc}
 use Rattle.vlog_tree.specs.declared.expression.Atom.{Atom}
 use Rattle.vlog_tree.specs.Value.{Values}
-use Rattle.block_netlist.specs.declared.fifos.ChannelView.{ChannelView}
-use Rattle.block_netlist.specs.declared.registers.Register.{Register}
-use Rattle.block_netlist.specs.declared.registers.RegisterList.{RegisterList}
-use Rattle.block_netlist.specs.declared.wires.WireList.{WireList}
-use Rattle.block_netlist.specs.Added.{AddsWires}
-use Rattle.block_netlist.specs.Registers.{next_register, Lays}
-use Rattle.block_procs.specs.declared.layout.Staging.{Staging}
+use Rattle.block_build.specs.declared.netlist.fifos.ChannelView.{ChannelView}
+use Rattle.block_build.specs.declared.netlist.registers.Register.{Register}
+use Rattle.block_build.specs.declared.netlist.registers.RegisterList.{RegisterList}
+use Rattle.block_build.specs.declared.netlist.wires.WireList.{WireList}
+use Rattle.block_build.specs.Netlist.Added.{AddsWires}
+use Rattle.block_build.specs.Netlist.Registers.{next_register, Lays}
+use Rattle.block_verilog.specs.declared.signals.layout.Staging.{Staging}
 use Rattle.pipe_schedule.specs.declared.schedule.Schedule.{Schedule}
-use Rattle.block_pipelines.specs.declared.layout.ProcLayout.{ProcLayout}
-use Rattle.block_pipelines.specs.declared.pipelines.ProcWires.{ProcWires}
-use Rattle.block_pipelines.specs.Nets.{ProcParts}
-use Rattle.block_pipelines.specs.Pipelines.{ScheduledProc, scheduled, IsLaidOut, StageNumbers, HasStages, ProcDriven, NextNumbers, NextsDriven, proc_registers, next_nets}
-use Rattle.block_module.specs.Each.{EachFrom}
-use Rattle.block_module.proofs.Lemmas.Each.{each_at, EachSoFar, each_more, longer, behind_there, one_there, wires_more}
+use Rattle.block_verilog.specs.declared.pipelines.layout.ProcLayout.{ProcLayout}
+use Rattle.block_verilog.specs.declared.pipelines.pipelines.ProcWires.{ProcWires}
+use Rattle.block_verilog.specs.Pipelines.Nets.{ProcParts}
+use Rattle.block_verilog.specs.Pipelines.Pipelines.{ScheduledProc, scheduled, IsLaidOut, StageNumbers, HasStages, ProcDriven, NextNumbers, NextsDriven, proc_registers, next_nets}
+use Rattle.block_verilog.specs.Each.{EachFrom}
+use Rattle.block_verilog.proofs.Lemmas.Each.{each_at, EachSoFar, each_more, longer, behind_there, one_there, wires_more}
 use Rattle.block_verilog.proofs.OnMade.{map_there}
 use Rattle.block_verilog.specs.Parts.{nexts_of}
 use Rattle.block_verilog.specs.Procs.{by_schedule, AreLaidOut, laid_registers, MadeProc, IsMadeProc, IsMadeBy, AreMade, IsPartOf, GoesNext, ArePutNext}

@@ -7,30 +7,30 @@ use Rattle.ir_tree.specs.declared.package.Channel.{Channel}
 use Rattle.ir_tree.specs.declared.package.Package.{Package}
 use Rattle.ir_tree.specs.declared.package.Proc.{Proc}
 use Rattle.ir_tree.specs.Networks.{kind_of}
-use Rattle.ir_verify.specs.Verified.{IsVerified}
+use Rattle.ir_tree.specs.Rules.Verified.{IsVerified}
 use Rattle.pipe_schedule.specs.declared.schedule.Schedule.{Schedule}
 use Rattle.pipe_schedule.specs.Legal.{IsLegalAt, depth_of, turn_stage, interval_of}
 use Rattle.pipe_schedule.specs.Timed.{timed_nodes, timed_proc}
 use Rattle.vlog_tree.specs.declared.expression.Atom.{Atom}
 use Rattle.vlog_tree.specs.declared.module.VModule.{VModule}
 use Rattle.vlog_tree.specs.Value.{Values}
-use Rattle.block_netlist.specs.declared.fifos.ChannelEnds.{ChannelEnds}
-use Rattle.block_netlist.specs.declared.fifos.ChannelView.{ChannelView}
-use Rattle.block_netlist.specs.declared.fifos.Fifo.{Fifo}
-use Rattle.block_netlist.specs.declared.registers.Register.{Register}
-use Rattle.block_netlist.specs.declared.registers.RegisterList.{RegisterList}
-use Rattle.block_netlist.specs.declared.wires.WireList.{WireList}
-use Rattle.block_netlist.specs.Added.{Carries, AddsWires}
-use Rattle.block_schedule.specs.Pipelines.{AreLegal, pipeline_of, pipelines_of}
-use Rattle.block_pipelines.specs.declared.layout.ProcLayout.{ProcLayout}
-use Rattle.block_pipelines.specs.declared.pipelines.ProcWires.{ProcWires}
-use Rattle.block_pipelines.specs.Nets.{ProcParts, ArePut, PartsDriven}
-use Rattle.block_pipelines.specs.Pipelines.{ScheduledProc, IsLaidOut, HasStages, ProcDriven, proc_registers}
-use Rattle.block_module.specs.Assembly.{IsAssembled, port_drivers}
-use Rattle.block_module.specs.Each.{EachFrom}
-use Rattle.block_module.specs.Ports.{module_ports, ports_from}
-use Rattle.block_module.specs.Queues.{all_registers, all_next, fifos_from}
-use Rattle.block_module.proofs.Lemmas.Each.{each_at}
+use Rattle.block_build.specs.declared.netlist.fifos.ChannelEnds.{ChannelEnds}
+use Rattle.block_build.specs.declared.netlist.fifos.ChannelView.{ChannelView}
+use Rattle.block_build.specs.declared.netlist.fifos.Fifo.{Fifo}
+use Rattle.block_build.specs.declared.netlist.registers.Register.{Register}
+use Rattle.block_build.specs.declared.netlist.registers.RegisterList.{RegisterList}
+use Rattle.block_build.specs.declared.netlist.wires.WireList.{WireList}
+use Rattle.block_build.specs.Netlist.Added.{Carries, AddsWires}
+use Rattle.block_verilog.specs.Schedule.Pipelines.{AreLegal, pipeline_of, pipelines_of}
+use Rattle.block_verilog.specs.declared.pipelines.layout.ProcLayout.{ProcLayout}
+use Rattle.block_verilog.specs.declared.pipelines.pipelines.ProcWires.{ProcWires}
+use Rattle.block_verilog.specs.Pipelines.Nets.{ProcParts, ArePut, PartsDriven}
+use Rattle.block_verilog.specs.Pipelines.Pipelines.{ScheduledProc, IsLaidOut, HasStages, ProcDriven, proc_registers}
+use Rattle.block_verilog.specs.Assembly.{IsAssembled, port_drivers}
+use Rattle.block_verilog.specs.Each.{EachFrom}
+use Rattle.block_verilog.specs.Ports.{module_ports, ports_from}
+use Rattle.block_verilog.specs.Queues.{all_registers, all_next, fifos_from}
+use Rattle.block_verilog.proofs.Lemmas.Each.{each_at}
 use Rattle.block_verilog.specs.Modules.{IsMadeOfParts, AreScheduled}
 use Rattle.block_verilog.specs.Parts.{BlockParts, ArePutFrom, registers_of, nexts_of, IsBlockPut, IsBlockDriven}
 use Rattle.block_verilog.specs.Procs.{by_schedule, AreLaidOut, laid_registers, MadeProc, IsMadeProc, IsMadeBy, IsPartOf, GoesNext}

@@ -36,34 +36,34 @@ use Rattle.vlog_tree.proofs.Lemmas.Settling.{each_prefix, each_back}
 use Rattle.block_stage.specs.Machine.Cycle.{Ports}
 use Rattle.block_build.specs.Block.{Block, IsBlock}
 use Rattle.block_build.specs.Rows.{InputRow}
-use Rattle.block_netlist.specs.declared.fifos.ChannelEnds.{ChannelEnds}
-use Rattle.block_netlist.specs.declared.fifos.ChannelView.{ChannelView}
-use Rattle.block_netlist.specs.declared.fifos.Fifo.{Fifo}
-use Rattle.block_netlist.specs.declared.registers.Register.{Register}
-use Rattle.block_netlist.specs.Blocks.{BlockNets, ChannelNets, PipelineNets, SidesShown, OuterShown, PortShown, RowShown, BlockRow, BlockNext, BlockGoesOn, BlockReset, FifoGoesOn}
-use Rattle.block_netlist.specs.Buffers.{fifo_nets}
-use Rattle.block_netlist.specs.Gates.{net, not_gate}
-use Rattle.block_netlist.specs.Holding.{AreReset, RegistersGoOn}
-use Rattle.block_netlist.specs.Leaves.{ShowsValue}
-use Rattle.block_netlist.specs.Literals.{literal_atom}
-use Rattle.block_netlist.specs.Order.{CarriesWord}
-use Rattle.block_netlist.specs.Registers.{AreTaken, resets_of, sets_from, count_bits, laid_fifo}
-use Rattle.block_netlist.specs.Wires.{Wire, assigned, AreWired}
-use Rattle.block_procs.specs.Nodes.{channel_view, nothing_there, number_of}
-use Rattle.block_procs.specs.Registers.{given_or}
-use Rattle.block_schedule.specs.Pipelines.{block_of}
-use Rattle.block_pipelines.specs.Nets.{ProcParts, ArePut, PartsDriven, pipeline_nets}
-use Rattle.block_pipelines.specs.Pipelines.{next_nets, proc_registers}
-use Rattle.block_module.specs.Assembly.{port_drivers}
-use Rattle.block_module.specs.Drives.{DrivesBlock}
-use Rattle.block_module.specs.Outside.{drive_at, word_offered, room_given, row_ports, input_row, PortGiven, PortDriven}
-use Rattle.block_module.specs.Ports.{data_bits, flat_bits, module_ports, count_ports, ports_from}
-use Rattle.block_module.specs.Queues.{registers_at, all_registers, all_next, fifos_from, no_ends, next_of, input_view, output_view, ViewIs, IsViewOf}
-use Rattle.block_module.specs.Widths.{CarryWords, IsInputRow, AreInputRows}
-use Rattle.block_module.proofs.Lemmas.Fifos.{fifo_there, fifo_taken, fifos_taken, fifos_reset, all_next_long}
-use Rattle.block_module.proofs.Lemmas.Outside.{ports_given, ports_driven}
-use Rattle.block_module.proofs.Lemmas.Rows.{NetlistsDrive, NothingIsAsserted, IsNetlistOf, netlist_drives}
-use Rattle.block_module.proofs.Lemmas.Taken.{SetsAreTaken, taken_both, reset_given, clocks_taken, resets_taken}
+use Rattle.block_build.specs.declared.netlist.fifos.ChannelEnds.{ChannelEnds}
+use Rattle.block_build.specs.declared.netlist.fifos.ChannelView.{ChannelView}
+use Rattle.block_build.specs.declared.netlist.fifos.Fifo.{Fifo}
+use Rattle.block_build.specs.declared.netlist.registers.Register.{Register}
+use Rattle.block_build.specs.Netlist.Blocks.{BlockNets, ChannelNets, PipelineNets, SidesShown, OuterShown, PortShown, RowShown, BlockRow, BlockNext, BlockGoesOn, BlockReset, FifoGoesOn}
+use Rattle.block_build.specs.Netlist.Buffers.{fifo_nets}
+use Rattle.block_build.specs.Netlist.Gates.{net, not_gate}
+use Rattle.block_build.specs.Netlist.Holding.{AreReset, RegistersGoOn}
+use Rattle.block_build.specs.Netlist.Leaves.{ShowsValue}
+use Rattle.block_build.specs.Netlist.Literals.{literal_atom}
+use Rattle.block_build.specs.Netlist.Order.{CarriesWord}
+use Rattle.block_build.specs.Netlist.Registers.{AreTaken, resets_of, sets_from, count_bits, laid_fifo}
+use Rattle.block_build.specs.Netlist.Wires.{Wire, assigned, AreWired}
+use Rattle.block_verilog.specs.Signals.Nodes.{channel_view, nothing_there, number_of}
+use Rattle.block_verilog.specs.Signals.Registers.{given_or}
+use Rattle.block_verilog.specs.Schedule.Pipelines.{block_of}
+use Rattle.block_verilog.specs.Pipelines.Nets.{ProcParts, ArePut, PartsDriven, pipeline_nets}
+use Rattle.block_verilog.specs.Pipelines.Pipelines.{next_nets, proc_registers}
+use Rattle.block_verilog.specs.Assembly.{port_drivers}
+use Rattle.block_verilog.specs.Drives.{DrivesBlock}
+use Rattle.block_verilog.specs.Outside.{drive_at, word_offered, room_given, row_ports, input_row, PortGiven, PortDriven}
+use Rattle.block_verilog.specs.Ports.{data_bits, flat_bits, module_ports, count_ports, ports_from}
+use Rattle.block_verilog.specs.Queues.{registers_at, all_registers, all_next, fifos_from, no_ends, next_of, input_view, output_view, ViewIs, IsViewOf}
+use Rattle.block_verilog.specs.Widths.{CarryWords, IsInputRow, AreInputRows}
+use Rattle.block_verilog.proofs.Lemmas.Fifos.{fifo_there, fifo_taken, fifos_taken, fifos_reset, all_next_long}
+use Rattle.block_verilog.proofs.Lemmas.Outside.{ports_given, ports_driven}
+use Rattle.block_verilog.proofs.Lemmas.Rows.{NetlistsDrive, NothingIsAsserted, IsNetlistOf, netlist_drives}
+use Rattle.block_verilog.proofs.Lemmas.Taken.{SetsAreTaken, taken_both, reset_given, clocks_taken, resets_taken}
 use Rattle.block_verilog.specs.Modules.{IsMadeOfParts}
 use Rattle.block_verilog.specs.Parts.{BlockParts, IsBlockDriven, block_nets, block_registers, block_nexts, channel_nets, fifo_or, registers_of, nexts_of, ArePutFrom}
 use Rattle.block_verilog.proofs.OnMade.{MadeLaw, PartnersLaw, block_made, map_there, is_there, got, at_index}

@@ -15,22 +15,22 @@ use Rattle.ir_tree.specs.Networks.{network_of, head_of, chan_of}
 use Rattle.vlog_tree.specs.declared.expression.Atom.{Atom}
 use Rattle.vlog_tree.specs.Value.{Values, bit, atom_value}
 use Rattle.block_stage.specs.Machine.Pipeline.{Pipeline}
-use Rattle.block_netlist.specs.declared.fifos.ChannelEnds.{ChannelEnds}
-use Rattle.block_netlist.specs.declared.fifos.ChannelView.{ChannelView}
-use Rattle.block_netlist.specs.Blocks.{SomeMade, WordMade, ReaderMade, WriterMade, ChannelNets}
-use Rattle.block_netlist.specs.Ends.{some_wires, some_net, word_wires, word_net, all_sites, end_requests}
-use Rattle.block_netlist.specs.Literals.{literal_atom}
-use Rattle.block_netlist.specs.Requests.{requests_at}
-use Rattle.block_netlist.specs.Wires.{AreWired}
-use Rattle.block_procs.specs.Nodes.{channel_view}
-use Rattle.block_schedule.specs.Pipelines.{AreLegal, pipelines_of}
-use Rattle.block_pipelines.specs.declared.pipelines.ProcWires.{ProcWires}
-use Rattle.block_pipelines.specs.Nets.{ProcParts, ArePut, PartsDriven, pipeline_nets}
-use Rattle.block_pipelines.specs.Pipelines.{proc_registers}
-use Rattle.block_module.specs.Each.{EachFrom}
-use Rattle.block_module.specs.Ports.{flat_bits}
-use Rattle.block_module.specs.Queues.{no_ends}
-use Rattle.block_module.proofs.Lemmas.Each.{each_at}
+use Rattle.block_build.specs.declared.netlist.fifos.ChannelEnds.{ChannelEnds}
+use Rattle.block_build.specs.declared.netlist.fifos.ChannelView.{ChannelView}
+use Rattle.block_build.specs.Netlist.Blocks.{SomeMade, WordMade, ReaderMade, WriterMade, ChannelNets}
+use Rattle.block_build.specs.Netlist.Ends.{some_wires, some_net, word_wires, word_net, all_sites, end_requests}
+use Rattle.block_build.specs.Netlist.Literals.{literal_atom}
+use Rattle.block_build.specs.Netlist.Requests.{requests_at}
+use Rattle.block_build.specs.Netlist.Wires.{AreWired}
+use Rattle.block_verilog.specs.Signals.Nodes.{channel_view}
+use Rattle.block_verilog.specs.Schedule.Pipelines.{AreLegal, pipelines_of}
+use Rattle.block_verilog.specs.declared.pipelines.pipelines.ProcWires.{ProcWires}
+use Rattle.block_verilog.specs.Pipelines.Nets.{ProcParts, ArePut, PartsDriven, pipeline_nets}
+use Rattle.block_verilog.specs.Pipelines.Pipelines.{proc_registers}
+use Rattle.block_verilog.specs.Each.{EachFrom}
+use Rattle.block_verilog.specs.Ports.{flat_bits}
+use Rattle.block_verilog.specs.Queues.{no_ends}
+use Rattle.block_verilog.proofs.Lemmas.Each.{each_at}
 use Rattle.block_verilog.specs.Parts.{BlockParts, channel_nets, ArePutFrom, IsBlockDriven}
 use Rattle.block_verilog.specs.Sides.{stands_at, has_site, proc_at, SomeStands, WordStands, SomeAt, WordAt, EndsAt, IsEnd}
 

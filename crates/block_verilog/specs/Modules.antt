@@ -18,14 +18,14 @@ use Rattle.vlog_tree.specs.declared.module.VModule.{VModule}
 use Rattle.vlog_tree.specs.Signals.{declared_port}
 use Rattle.vlog_tree.specs.Value.{Values, atom_value, expr_value}
 use Rattle.vlog_tree.specs.WellFormed.{CanRun}
-use Rattle.block_netlist.specs.declared.registers.RegisterList.{RegisterList}
-use Rattle.block_netlist.specs.declared.wires.WireList.{WireList}
-use Rattle.block_netlist.specs.Added.{Carries}
-use Rattle.block_netlist.specs.Gates.{net, not_gate}
-use Rattle.block_schedule.specs.Pipelines.{block_of}
-use Rattle.block_module.specs.Assembly.{IsAssembled, own_name, port_drivers}
-use Rattle.block_module.specs.Drives.{DrivesBlock}
-use Rattle.block_module.specs.Ports.{module_ports, ports_from}
+use Rattle.block_build.specs.declared.netlist.registers.RegisterList.{RegisterList}
+use Rattle.block_build.specs.declared.netlist.wires.WireList.{WireList}
+use Rattle.block_build.specs.Netlist.Added.{Carries}
+use Rattle.block_build.specs.Netlist.Gates.{net, not_gate}
+use Rattle.block_verilog.specs.Schedule.Pipelines.{block_of}
+use Rattle.block_verilog.specs.Assembly.{IsAssembled, own_name, port_drivers}
+use Rattle.block_verilog.specs.Drives.{DrivesBlock}
+use Rattle.block_verilog.specs.Ports.{module_ports, ports_from}
 use Rattle.block_verilog.specs.Parts.{BlockParts, IsBlockPut, IsBlockDriven, block_registers, block_nexts}
 
 -- a module that is put together of the parts of a package, whose clock is this

@@ -3,25 +3,25 @@ use Rattle.std.specs.Prelude.{◌≡◌, ℕ, suc, ◌+◌, ◌≤◌, get_or, s
 use Rattle.ir_tree.specs.declared.package.Channel.{Channel}
 use Rattle.ir_tree.specs.declared.package.Package.{Package}
 use Rattle.ir_tree.specs.Networks.{kind_of}
-use Rattle.ir_verify.specs.Verified.{IsVerified}
+use Rattle.ir_tree.specs.Rules.Verified.{IsVerified}
 use Rattle.net_core.specs.declared.net.Kind.TheVariants.{Inner}
 use Rattle.vlog_tree.specs.declared.expression.Atom.{Atom}
 use Rattle.vlog_tree.specs.Value.{Values}
-use Rattle.block_netlist.specs.declared.fifos.ChannelEnds.{ChannelEnds}
-use Rattle.block_netlist.specs.declared.fifos.ChannelView.{ChannelView}
-use Rattle.block_netlist.specs.declared.fifos.Fifo.{Fifo}
-use Rattle.block_netlist.specs.declared.registers.Register.{Register}
-use Rattle.block_netlist.specs.Blocks.{BlockNets, ChannelNets}
-use Rattle.block_netlist.specs.Buffers.{fifo_nets}
-use Rattle.block_netlist.specs.Registers.{laid_fifo}
-use Rattle.block_procs.specs.Nodes.{channel_view, number_of}
-use Rattle.block_schedule.specs.Pipelines.{AreLegal, pipeline_of, pipelines_of}
-use Rattle.block_pipelines.specs.declared.pipelines.ProcWires.{ProcWires}
-use Rattle.block_pipelines.specs.Nets.{ProcParts, ArePut, PartsDriven, pipeline_nets}
-use Rattle.block_pipelines.specs.Pipelines.{proc_registers, next_nets}
-use Rattle.block_module.specs.Each.{EachFrom}
-use Rattle.block_module.specs.Ports.{ports_from}
-use Rattle.block_module.specs.Queues.{all_registers, all_next, fifos_from, no_ends, IsViewOf, IsViewed, GoesAt}
+use Rattle.block_build.specs.declared.netlist.fifos.ChannelEnds.{ChannelEnds}
+use Rattle.block_build.specs.declared.netlist.fifos.ChannelView.{ChannelView}
+use Rattle.block_build.specs.declared.netlist.fifos.Fifo.{Fifo}
+use Rattle.block_build.specs.declared.netlist.registers.Register.{Register}
+use Rattle.block_build.specs.Netlist.Blocks.{BlockNets, ChannelNets}
+use Rattle.block_build.specs.Netlist.Buffers.{fifo_nets}
+use Rattle.block_build.specs.Netlist.Registers.{laid_fifo}
+use Rattle.block_verilog.specs.Signals.Nodes.{channel_view, number_of}
+use Rattle.block_verilog.specs.Schedule.Pipelines.{AreLegal, pipeline_of, pipelines_of}
+use Rattle.block_verilog.specs.declared.pipelines.pipelines.ProcWires.{ProcWires}
+use Rattle.block_verilog.specs.Pipelines.Nets.{ProcParts, ArePut, PartsDriven, pipeline_nets}
+use Rattle.block_verilog.specs.Pipelines.Pipelines.{proc_registers, next_nets}
+use Rattle.block_verilog.specs.Each.{EachFrom}
+use Rattle.block_verilog.specs.Ports.{ports_from}
+use Rattle.block_verilog.specs.Queues.{all_registers, all_next, fifos_from, no_ends, IsViewOf, IsViewed, GoesAt}
 use Rattle.block_verilog.specs.Sides.{IsEnd}
 
 -- of its procs in their order, and of its channels in theirs, where FIFOs go on by wires from these numbers on

@@ -3,19 +3,19 @@ use Rattle.std.specs.Prelude.{◌≡◌, ℕ, ◌+◌, min, length, map, List, [
 use Rattle.ir_tree.specs.declared.package.Package.{Package}
 use Rattle.vlog_tree.specs.declared.expression.Atom.{Atom}
 use Rattle.vlog_tree.specs.Value.{Values, atom_value, expr_value}
-use Rattle.block_netlist.specs.declared.fifos.ChannelEnds.{ChannelEnds}
-use Rattle.block_netlist.specs.declared.fifos.ChannelView.{ChannelView}
-use Rattle.block_netlist.specs.declared.fifos.Fifo.{Fifo}
-use Rattle.block_netlist.specs.declared.registers.RegisterList.{RegisterList}
-use Rattle.block_netlist.specs.declared.wires.WireList.{WireList}
-use Rattle.block_netlist.specs.Added.{AddsWires}
-use Rattle.block_netlist.specs.Gates.{net, not_gate}
+use Rattle.block_build.specs.declared.netlist.fifos.ChannelEnds.{ChannelEnds}
+use Rattle.block_build.specs.declared.netlist.fifos.ChannelView.{ChannelView}
+use Rattle.block_build.specs.declared.netlist.fifos.Fifo.{Fifo}
+use Rattle.block_build.specs.declared.netlist.registers.RegisterList.{RegisterList}
+use Rattle.block_build.specs.declared.netlist.wires.WireList.{WireList}
+use Rattle.block_build.specs.Netlist.Added.{AddsWires}
+use Rattle.block_build.specs.Netlist.Gates.{net, not_gate}
 use Rattle.pipe_schedule.specs.declared.schedule.Schedule.{Schedule}
-use Rattle.block_pipelines.specs.declared.layout.ProcLayout.{ProcLayout}
-use Rattle.block_pipelines.specs.declared.pipelines.ProcWires.{ProcWires}
-use Rattle.block_pipelines.specs.Nets.{ProcParts}
-use Rattle.block_module.specs.Each.{EachFrom}
-use Rattle.block_module.specs.Queues.{all_registers, all_next, fifos_from, IsViewOf, IsViewed, GoesAt}
+use Rattle.block_verilog.specs.declared.pipelines.layout.ProcLayout.{ProcLayout}
+use Rattle.block_verilog.specs.declared.pipelines.pipelines.ProcWires.{ProcWires}
+use Rattle.block_verilog.specs.Pipelines.Nets.{ProcParts}
+use Rattle.block_verilog.specs.Each.{EachFrom}
+use Rattle.block_verilog.specs.Queues.{all_registers, all_next, fifos_from, IsViewOf, IsViewed, GoesAt}
 use Rattle.block_verilog.specs.Parts.{nexts_of}
 use Rattle.block_verilog.specs.Procs.{AreLaidOut, laid_registers, MadeProc, IsMadeProc, IsMadeBy, IsPartOf, GoesNext}
 use Rattle.block_verilog.specs.Sides.{IsEnd}

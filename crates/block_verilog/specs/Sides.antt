@@ -8,13 +8,13 @@ use Rattle.ir_tree.specs.declared.package.Proc.{Proc}
 use Rattle.ir_tree.specs.Activations.{sites_of}
 use Rattle.vlog_tree.specs.declared.expression.Atom.{Atom}
 use Rattle.vlog_tree.specs.Value.{Values}
-use Rattle.block_netlist.specs.declared.fifos.ChannelEnds.{ChannelEnds}
-use Rattle.block_netlist.specs.Ends.{some_wires, some_net, word_wires, word_net}
-use Rattle.block_netlist.specs.Literals.{literal_atom}
-use Rattle.block_netlist.specs.Requests.{requests_at}
-use Rattle.block_netlist.specs.Wires.{AreWired}
-use Rattle.block_pipelines.specs.declared.pipelines.ProcWires.{ProcWires}
-use Rattle.block_module.specs.Ports.{flat_bits}
+use Rattle.block_build.specs.declared.netlist.fifos.ChannelEnds.{ChannelEnds}
+use Rattle.block_build.specs.Netlist.Ends.{some_wires, some_net, word_wires, word_net}
+use Rattle.block_build.specs.Netlist.Literals.{literal_atom}
+use Rattle.block_build.specs.Netlist.Requests.{requests_at}
+use Rattle.block_build.specs.Netlist.Wires.{AreWired}
+use Rattle.block_verilog.specs.declared.pipelines.pipelines.ProcWires.{ProcWires}
+use Rattle.block_verilog.specs.Ports.{flat_bits}
 
 -- a site stands at an end of a channel
 abbrev pub stands_at : Bool → ℕ → Site → Bool

@@ -1,31 +1,31 @@
 //! The module of a package.
 
 ghost use Rattle.std.specs.Prelude.{◌≡◌, ◌⊎◌, ◌++◌, ◌<◌, ◌^◌, ℕ, List, map, length, codes, IfOk, IfErr, MatchOption, None};
-ghost use Rattle.block_netlist.specs.Registers.{next_register};
-ghost use Rattle.ir_verify.specs.Verified.{IsVerified};
+ghost use Rattle.block_build.specs.Netlist.Registers.{next_register};
+ghost use Rattle.ir_tree.specs.Rules.Verified.{IsVerified};
 ghost use Rattle.pipe_schedule.specs.declared.schedule.Schedule.{Schedule as SomeSchedule};
 ghost use Rattle.vlog_tree.specs.Verifier.Verified.{IsVerdict};
 ghost use Rattle.vlog_tree.specs.Verifier.WithSpans.{no_spans};
 ghost use Rattle.vlog_tree.specs.WellFormed.{CanRun};
 ghost use Rattle.xb_span.specs.declared.limit.Limit.{Limit as SomeLimit};
 ghost use Rattle.block_verilog.specs.declared.build.BuildError.TheVariants.{Over, OutOfMemory};
-ghost use Rattle.block_module.specs.Each.{EachFrom};
-ghost use Rattle.block_module.specs.Queues.{AreShown};
+ghost use Rattle.block_verilog.specs.Each.{EachFrom};
+ghost use Rattle.block_verilog.specs.Queues.{AreShown};
 ghost use Rattle.block_verilog.specs.Modules.{IsMadeOfParts, IsModuleOf, IsFirstTooDeep, HaveSlots, NoneTooDeep, AreFifoDepths, is_deep as too_deep_by, limit_of, AreScheduled};
 ghost use Rattle.block_verilog.specs.Procs.{MadeProc, IsMadeProc};
 ghost use Rattle.block_verilog.specs.Put.{AllLaid, AllPut, AllNext};
 
+use crate::assembly::assembled;
 use crate::laws::modules_drive_their_blocks;
+use crate::pipelines::layout::ProcLayout;
+use crate::pipelines::pipelines::ProcWires;
+use crate::ports::{joined_name, module_ports, number_behind, port_numbers};
 use crate::procs::{lay_procs, next_procs, wire_procs};
+use crate::queues::{depth_at, fifo_nexts, lay_fifos, views};
 use crate::sides::all_ends;
-use block_module::assembly::assembled;
-use block_module::ports::{joined_name, module_ports, number_behind, port_numbers};
-use block_module::queues::{depth_at, fifo_nexts, lay_fifos, views};
-use block_netlist::fifos::{ChannelEnds, ChannelView, Fifo};
-use block_netlist::registers::RegisterList;
-use block_netlist::wires::WireList;
-use block_pipelines::layout::ProcLayout;
-use block_pipelines::pipelines::ProcWires;
+use block_build::netlist::fifos::{ChannelEnds, ChannelView, Fifo};
+use block_build::netlist::registers::RegisterList;
+use block_build::netlist::wires::WireList;
 use ir_tree::{Ends, Package};
 use pipe_schedule::Schedule;
 use std::alloc::{AllocError, Global};

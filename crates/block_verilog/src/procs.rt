@@ -2,16 +2,16 @@
 
 ghost use Rattle.std.specs.Prelude.{◌≡◌, ◌-◌, length, map, List, IfOk, OnOk};
 ghost use Rattle.ir_tree.specs.declared.package.Channel.{Channel as SomeChannel};
-ghost use Rattle.block_netlist.specs.Registers.{next_register, Lays};
+ghost use Rattle.block_build.specs.Netlist.Registers.{next_register, Lays};
 ghost use Rattle.block_verilog.specs.Procs.{AreLaidOut, laid_registers, MadeProc, IsMadeProc, AreMade, ArePutNext};
-ghost use Rattle.block_module.specs.Each.{EachFrom};
+ghost use Rattle.block_verilog.specs.Each.{EachFrom};
 
-use block_netlist::fifos::ChannelView;
-use block_netlist::registers::RegisterList;
-use block_netlist::wires::WireList;
-use block_pipelines::layout::{ProcLayout, lay_out};
-use block_pipelines::pipelines::{ProcWires, proc_nexts, proc_wires};
-use block_procs::layout::Staging;
+use crate::pipelines::layout::{ProcLayout, lay_out};
+use crate::pipelines::pipelines::{ProcWires, proc_nexts, proc_wires};
+use crate::signals::layout::Staging;
+use block_build::netlist::fifos::ChannelView;
+use block_build::netlist::registers::RegisterList;
+use block_build::netlist::wires::WireList;
 use ir_tree::{Channel, Proc};
 use pipe_schedule::Schedule;
 use std::alloc::{AllocError, Global};

@@ -1,3 +1,7 @@
+-- the text of cycles
+pub mod OnCycles
+-- row files
+pub mod OnRows
 pub mod Settling
 pub mod Giving
 pub mod Storing

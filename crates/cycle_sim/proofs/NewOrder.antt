@@ -7,8 +7,8 @@ use Rattle.std.specs.Prelude.{slice_get, slice_set, filter_map, unwrap_or, optio
 use Rattle.std.specs.List.{AllByRecursion}
 use Rattle.std.proofs.lemmas.Option.{slice_get_within, slice_get-get_or, get_or_from_slice_get, slice_get-map}
 use Rattle.base.proofs.Lemmas.Lists.Indices.{slice_get-set, slice_get-set_other}
-use Rattle.topo_order.specs.Needs.{Needs, needs_of, IsOrderOf, AreClosed}
-use Rattle.topo_order.specs.Needs as graph
+use Rattle.base.specs.TopoOrder.Needs.{Needs, needs_of, IsOrderOf, AreClosed}
+use Rattle.base.specs.TopoOrder.Needs as graph
 use Rattle.vlog_tree.specs.declared.module.VModule.{VModule}
 use Rattle.vlog_tree.specs.declared.module.Assignment.{Assignment}
 use Rattle.vlog_tree.specs.Forms.{reads}

@@ -5,8 +5,8 @@ use Rattle.std.specs.Prelude.{slice_get, slice_set, filter_map, unwrap_or}
 use Rattle.std.specs.List.{AllByRecursion}
 use Rattle.std.proofs.lemmas.Option.{slice_get_within}
 use Rattle.base.proofs.Lemmas.Lists.Indices.{slice_get-set, slice_get-set_other}
-use Rattle.topo_order.specs.Needs.{Needs, needs_of, IsOrderOf}
-use Rattle.topo_order.specs.Needs.{Reaches, itself, by_way}
+use Rattle.base.specs.TopoOrder.Needs.{Needs, needs_of, IsOrderOf}
+use Rattle.base.specs.TopoOrder.Needs.{Reaches, itself, by_way}
 use Rattle.vlog_tree.specs.declared.module.VModule.{VModule}
 use Rattle.vlog_tree.specs.declared.module.Assignment.{Assignment}
 use Rattle.vlog_tree.specs.Forms.{reads}

@@ -4,8 +4,8 @@ use Rattle.std.specs.Prelude.{slice_get}
 use Rattle.std.specs.List.{AllByRecursion}
 use Rattle.std.proofs.lemmas.List.Elements.{recursion_from_All}
 use Rattle.std.proofs.lemmas.Option.{slice_get_within, get_or_from_slice_get}
-use Rattle.topo_order.specs.Needs.{AreClosed, IsOrderOf}
-use Rattle.topo_order.specs.Needs as graph
+use Rattle.base.specs.TopoOrder.Needs.{AreClosed, IsOrderOf}
+use Rattle.base.specs.TopoOrder.Needs as graph
 use Rattle.vlog_tree.specs.declared.module.VModule.{VModule}
 use Rattle.vlog_tree.specs.declared.module.Assignment.{Assignment}
 use Rattle.vlog_tree.specs.Signals.{Declared, signals, declared_widths}

@@ -1,3 +1,7 @@
+-- the text of cycles
+pub mod Cycles
+-- row files
+pub mod Rows
 -- the widths under which an operator may be used
 pub mod Agree
 -- a simulator's signals, and the assignments in the order in which it takes them

@@ -6,9 +6,9 @@ ghost use Rattle.vlog_tree.specs.WellFormed.{CanRun};
 ghost use Rattle.cycle_sim.specs.Drivers.{AreDrivers, driver_at, needs_by};
 ghost use Rattle.cycle_sim.specs.Sim.{IsOrder};
 
+use base::topo_order::{Sorted, sort};
 use sqlite_items::Items;
 use std::alloc::{AllocError, Global};
-use topo_order::{Sorted, sort};
 use vlog_tree::{Assignment, VModule};
 
 /// The indices of a module's assignments in an order in which each reads only what is there before it.

@@ -10,7 +10,7 @@ use Rattle.dslx_meaning.specs.Rules.NetworkLimits.{refusal_of}
 use Rattle.dslx_parser.specs.Reads.{IsTextRefusal, TextGives, TextReads, misplaced, no_token, too_deep, tokens, tree}
 use Rattle.dslx_core.specs.declared.design.Design.{Design}
 use Rattle.dslx_elab.specs.Runs.{IsAcceptedText, IsMadeOfChecked}
-use Rattle.dslx_count.specs.declared.size.NetworkSize.{NetworkSize}
+use Rattle.dslx.specs.declared.count.size.NetworkSize.{NetworkSize}
 use Rattle.dslx.specs.Texts.{GivesTree, HasCheckedText, HasNetworkSize, IsNetworkSize, RefusesText, judged, unless_refused, unread}
 use Rattle.dslx.specs.Trees.{RefusesTree}
 

@@ -12,7 +12,7 @@ use Rattle.dslx_meaning.specs.Rules.ModuleRules.{faults_of, first_fault}
 use Rattle.dslx_meaning.specs.Rules.NetworkLimits.{Count, network_count, network_faults, refusal_of}
 use Rattle.dslx_core.proofs.Lemmas.Typing.Laws.{none_without_faults}
 use Rattle.dslx_check.specs.Verdicts.{IsAcceptedWith}
-use Rattle.dslx_count.specs.declared.size.NetworkSize.{NetworkSize}
+use Rattle.dslx.specs.declared.count.size.NetworkSize.{NetworkSize}
 use Rattle.dslx.specs.Texts.{IsNetworkSize}
 use Rattle.dslx.specs.Trees.{IsFaultless, RefusesTree}
 

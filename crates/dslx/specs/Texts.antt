@@ -13,7 +13,7 @@ use Rattle.dslx_meaning.specs.Network.{network_of}
 use Rattle.dslx_meaning.specs.Rules.NetworkLimits.{refusal_of}
 use Rattle.dslx_core.specs.declared.design.Design.{Design}
 use Rattle.dslx_elab.specs.Runs.{IsAcceptedText, IsMadeOfChecked}
-use Rattle.dslx_count.specs.declared.size.NetworkSize.{NetworkSize}
+use Rattle.dslx.specs.declared.count.size.NetworkSize.{NetworkSize}
 
 abbrev pub unless_refused : Module → Option Fault → Result Module ReadError
 unless_refused m None = Ok m

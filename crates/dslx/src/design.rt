@@ -10,9 +10,9 @@ ghost use Rattle.dslx_total.specs.Nets.Slashes.{EndsHaveNoSlash};
 ghost use Rattle.dslx.specs.Texts.{HasCheckedText, RefusesText};
 ghost use Rattle.dslx.specs.Trees.{IsFaultless, RefusesTree};
 
+use crate::order::accepted_design;
 use crate::tree::{faultless_top, size_within_limits};
 use dslx_core::Design;
-use dslx_order::accepted_design;
 use dslx_parser::read;
 use dslx_tree::{Module, Proc};
 use std::alloc::Global;

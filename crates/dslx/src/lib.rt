@@ -3,12 +3,14 @@
 //! The order of the reasons for which a text is refused stands in `specs/Texts`.
 #![tactic(auto)]
 
+pub mod count;
 mod design;
 mod laws;
+pub mod order;
 mod text;
 mod tree;
 
+pub use crate::count::NetworkSize;
 pub use design::design_of_text;
-pub use dslx_count::NetworkSize;
 pub use laws::one_module;
 pub use text::check_text;

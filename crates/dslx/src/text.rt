@@ -4,8 +4,8 @@ ghost use Rattle.std.specs.Prelude.{◌<◌, ◌^◌, length, IfOk, IfErr};
 ghost use Rattle.std.specs.Option.{option_copied};
 ghost use Rattle.dslx.specs.Texts.{HasNetworkSize, RefusesText};
 
+use crate::count::NetworkSize;
 use crate::tree::size_of_tree;
-use dslx_count::NetworkSize;
 use dslx_parser::read;
 use std::alloc::Global;
 use xb_span::ReadError;

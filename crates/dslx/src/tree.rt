@@ -6,13 +6,13 @@ ghost use Rattle.dslx_tree.specs.declared.item.Module.{Module};
 ghost use Rattle.dslx_tree.specs.declared.process.Proc.{Proc};
 ghost use Rattle.dslx_meaning.specs.Rules.NetworkLimits.{network_count, refusal_of};
 ghost use Rattle.dslx_check.specs.Verdicts.{IsVerdictOn};
-ghost use Rattle.dslx_count.specs.Sizes.{size_of_count};
+ghost use Rattle.dslx.specs.Count.Sizes.{size_of_count};
 ghost use Rattle.dslx.specs.Texts.{IsNetworkSize};
 ghost use Rattle.dslx.specs.Trees.{IsFaultless, RefusesTree};
 
+use crate::count::{NetworkSize, network_size, over_limit};
+use crate::order::spawn_order;
 use dslx_check::{Verdict, check};
-use dslx_count::{NetworkSize, network_size, over_limit};
-use dslx_order::spawn_order;
 use dslx_tree::{Module, Proc};
 use std::alloc::{AllocError, Global};
 use xb_span::ReadError;

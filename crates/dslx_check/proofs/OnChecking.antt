@@ -21,8 +21,8 @@ use Rattle.dslx_check_facts.specs.declared.facts.Facts.{Facts}
 use Rattle.dslx_check_facts.specs.Known.{text_of}
 use Rattle.dslx_check_facts.specs.Names.{definition_at, names_of}
 use Rattle.dslx_check_declarations.specs.Tops.{IsProcIf}
-use Rattle.dslx_check_least.specs.Starts.{AreInstancesApart, AreStarted, found_faults, starts_of, too_many}
-use Rattle.dslx_check_work.proofs.Lemmas.Firsts.{first_named}
+use Rattle.dslx_check.specs.Least.Starts.{AreInstancesApart, AreStarted, found_faults, starts_of, too_many}
+use Rattle.dslx_check_declarations.proofs.Lemmas.Work.Firsts.{first_named}
 use Rattle.dslx_check.specs.declared.checking.Verdict.{Verdict}
 use Rattle.dslx_check.specs.declared.checking.Verdict.TheVariants as verdict
 use Rattle.dslx_check.specs.Finds.{FindsInside}

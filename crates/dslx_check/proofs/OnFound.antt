@@ -25,7 +25,7 @@ use Rattle.dslx_check_facts.specs.Names.{names_of}
 use Rattle.dslx_check_facts.specs.Walks.{HasTables, WalkShown, instance_at, instance_of, shown}
 use Rattle.dslx_check_facts.proofs.Lemmas.Walks.{instance_is, tables_refl, tables_trans}
 use Rattle.base.proofs.Lemmas.Lists.Prefixes.{IsPrefix-refl}
-use Rattle.dslx_check_least.specs.Starts.{AreInstancesApart, AreStarted}
+use Rattle.dslx_check.specs.Least.Starts.{AreInstancesApart, AreStarted}
 use Rattle.dslx_check_tasks.specs.declared.work.Reaches.{Reaches}
 use Rattle.dslx_check_tasks.specs.declared.work.Work.{Work}
 use Rattle.dslx_check.specs.Finds.{AddsKey, AreManyMet, AreNumbersOf, FindsAll, FindsMany, FindsReached, IsMetBy, IsNumberIn, ReachesSoFar, with_new}

@@ -29,8 +29,8 @@ use Rattle.dslx_check_facts.specs.Walks.{HasTables, WalkGrows, WalkShown, instan
 use Rattle.dslx_check_facts.proofs.Lemmas.Walks.{instance_is, tables_trans}
 use Rattle.dslx_check_declarations.specs.Tops.{IsProcIf, named_as}
 use Rattle.dslx_check_declarations.proofs.Lemmas.Told.{told_at, told_long}
-use Rattle.dslx_check_work.specs.Settled.{told_item}
-use Rattle.dslx_check_work.proofs.Lemmas.Firsts.{name_is}
+use Rattle.dslx_check_declarations.specs.Work.Settled.{told_item}
+use Rattle.dslx_check_declarations.proofs.Lemmas.Work.Firsts.{name_is}
 use Rattle.dslx_check_tasks.specs.Laws.{KnownStays}
 use Rattle.dslx_check_tasks.specs.declared.work.Reaches.{Reaches}
 use Rattle.dslx_check_tasks.specs.declared.work.Work.{Work}

@@ -17,7 +17,7 @@ use Rattle.dslx_check_facts.specs.Walks.{instance_at, instances_at, shown}
 use Rattle.dslx_check_facts.proofs.Lemmas.Walks.{tables_trans}
 use Rattle.dslx_check_declarations.specs.Tops.{IsProcIf, IsTop}
 use Rattle.dslx_check_declarations.specs.declared.tops.Top.{Top}
-use Rattle.dslx_check_work.specs.Settled.{DeclarationsSettle, FunctionsSettle, ItemsSettle}
+use Rattle.dslx_check_declarations.specs.Work.Settled.{DeclarationsSettle, FunctionsSettle, ItemsSettle}
 use Rattle.dslx_check_tasks.specs.declared.work.Reaches.{Reaches}
 use Rattle.dslx_check_tasks.specs.declared.work.Work.{Work}
 use Rattle.dslx_check_tasks.specs.Standing.{WorkGoesOn, IsFoundBy, IsRight, IsSettledText, text_in}

@@ -17,8 +17,8 @@ use Rattle.dslx_check_facts.specs.declared.instances.InstanceKey.{InstanceKey}
 use Rattle.dslx_check_facts.specs.Keys.{same_instance_key}
 use Rattle.dslx_check_facts.specs.Names.{names_of}
 use Rattle.dslx_check_facts.specs.Walks.{HasTables, WalkGrows, WalkShown, instances_at, shown}
-use Rattle.dslx_check_least.specs.Starts.{AreInstancesApart, AreStarted}
-use Rattle.dslx_check_work.specs.Settled.{told_item}
+use Rattle.dslx_check.specs.Least.Starts.{AreInstancesApart, AreStarted}
+use Rattle.dslx_check_declarations.specs.Work.Settled.{told_item}
 use Rattle.dslx_check_tasks.specs.declared.work.Reaches.{Reaches}
 use Rattle.dslx_check_tasks.specs.declared.work.Work.{Work}
 use Rattle.dslx_check_tasks.specs.Standing.{IsFoundBy, IsInstanceFound, IsRight, own_globals, text_in}

@@ -14,7 +14,7 @@ use Rattle.dslx_check_rules.specs.Seen.{seen}
 use Rattle.dslx_check_facts.specs.declared.facts.Facts.{Facts}
 use Rattle.dslx_check_facts.specs.Known.{text_of}
 use Rattle.dslx_check_facts.specs.Names.{definition_at}
-use Rattle.dslx_check_least.specs.Starts.{too_many}
+use Rattle.dslx_check.specs.Least.Starts.{too_many}
 use Rattle.dslx_check.specs.Finds.{FindsInside, outside_found}
 use Rattle.dslx_check.specs.declared.checking.Broken.{Broken}
 use Rattle.dslx_check.specs.declared.checking.Verdict.{Verdict}

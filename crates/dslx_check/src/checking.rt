@@ -4,7 +4,7 @@ ghost use Rattle.std.specs.Prelude.{◌≡◌, IfOk, IfSome, OnOk, Option, Some}
 ghost use Rattle.std.specs.Option.{option_copied};
 ghost use Rattle.dslx_tree.specs.declared.process.Proc.{Proc as ProcTree};
 ghost use Rattle.dslx_check_declarations.specs.Tops.{IsProcIf};
-ghost use Rattle.dslx_check_least.specs.Starts.{too_many};
+ghost use Rattle.dslx_check.specs.Least.Starts.{too_many};
 ghost use Rattle.dslx_check_tasks.specs.Standing.{WorkGoesOn, IsRight, text_in};
 ghost use Rattle.dslx_check.specs.Verdicts.{FindsBroken, IsFirstOfBoth, IsProcOf, IsVerdictOn, TellsFirst};
 
@@ -41,12 +41,12 @@ pub fn check<'a>(
 ) -> Result<Verdict<'a>, AllocError>
     ensures { IfOk result (IsVerdictOn text.now (option_copied top.entry)) }
 {
-    dslx_check_least::laws::what_is_found_names_the_first_fault();
+    crate::least::laws::what_is_found_names_the_first_fault();
     dslx_core::typing::laws::accepted_without_faults();
-    dslx_check_text::laws::items_have_names_of_their_own();
-    dslx_check_text::known::texts_are_known();
-    dslx_check_settled::laws::items_settle();
-    dslx_check_settled::laws::declarations_settle();
+    crate::text::laws::items_have_names_of_their_own();
+    crate::text::known::texts_are_known();
+    crate::settled::laws::items_settle();
+    crate::settled::laws::declarations_settle();
     let mut work = Work::new(alloc, text)?;
     let names = item_names(alloc, text.items.as_slice())?;
     let own = top_of(&work.facts, top)?;

@@ -3,6 +3,9 @@
 
 mod checking;
 mod found;
+pub mod least;
 mod outside;
+pub mod settled;
+pub mod text;
 
 pub use checking::{Verdict, check};

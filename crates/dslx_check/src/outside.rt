@@ -74,7 +74,7 @@ fn add_own(work: &mut Work, item: u32, own: &mut Vec<u32>) -> Result<(), AllocEr
     ensures goes { OnOk result (WorkGoesOn work.old work.new) }
     ensures adds { OnOk result (AddsOwn (text_in work.old) (shown work.new.walk) item own.old.items own.new.items) }
 {
-    dslx_check_work::laws::what_is_known_stays();
+    dslx_check_declarations::work::laws::what_is_known_stays();
     match definition(&work.facts, item) {
         None => Err(AllocError),
         Some(definition) => if has_own_instance(definition) {

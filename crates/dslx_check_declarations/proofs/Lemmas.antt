@@ -8,3 +8,5 @@ pub mod Items
 pub mod Parts
 -- items by their numbers
 pub mod Told
+-- what is known of a text that is checked, as more and more of it is judged
+pub mod Work

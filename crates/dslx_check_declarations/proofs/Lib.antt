@@ -30,3 +30,5 @@ pub mod OnParts
 pub mod OnTops
 -- what crates above take by name
 pub mod Lemmas
+-- what is known of a text that is checked, as more and more of it is judged
+pub mod OnWork

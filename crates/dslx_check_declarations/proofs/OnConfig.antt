@@ -5,7 +5,7 @@ use Rattle.std.proofs.lemmas.Bool.Decides.{Decides-eqb}
 use Rattle.std.proofs.lemmas.List.{append-nil, length-reverse, take_all}
 use Rattle.std.proofs.lemmas.List.Folds.{list_all-append, list_all-map}
 use Rattle.std.proofs.lemmas.Option.{none-some, same_Some}
-use Rattle.dslx_check_nodes.proofs.Lemmas.Lists.{take_next}
+use Rattle.dslx_check_rules.proofs.Lemmas.Nodes.Lists.{take_next}
 use mathlib.Core.List.{reverse-cons}
 use Rattle.dslx_check_facts.specs.Bound.{bound_names}
 use Rattle.std.specs.Prelude.{if◌then◌else◌}

@@ -17,7 +17,7 @@ use Rattle.dslx_check_rules.specs.declared.table.row.TypeId.{TypeId}
 use Rattle.dslx_check_rules.specs.declared.table.row.TypeRow.{TypeRow}
 use Rattle.dslx_check_rules.specs.Interned.{AreDistinct, HasRowIf, ItemNames, type_if}
 use Rattle.dslx_check_rules.specs.Seen.{seen}
-use Rattle.dslx_check_nodes.specs.Parts.{IsPart}
+use Rattle.dslx_check_rules.specs.Nodes.Parts.{IsPart}
 use Rattle.dslx_check_declarations.specs.Items.{AnnotatesBy, IsWrittenType, annotated, annotated_faults}
 
 abbrev pub Adds : Faults → Faults → Faults → Type 0

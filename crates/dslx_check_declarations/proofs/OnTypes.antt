@@ -17,7 +17,7 @@ use Rattle.dslx_check_rules.specs.declared.table.row.TypeRow.{TypeRow}
 use Rattle.dslx_check_rules.specs.declared.table.row.TypeRow.TheVariants as row
 use Rattle.dslx_check_rules.specs.Interned.{HasBase, HasFields, HasRow, HasRowIf, ItemNames, is_item_row, type_at, type_if, with_row}
 use Rattle.dslx_check_rules.proofs.Lemmas.Rows.{in_with_row}
-use Rattle.dslx_check_nodes.proofs.Lemmas.Lists.{some_before}
+use Rattle.dslx_check_rules.proofs.Lemmas.Nodes.Lists.{some_before}
 use Rattle.dslx_check_facts.specs.Walks.{WalkShown}
 use Rattle.dslx_check_declarations.specs.Items.{FindsEnum, FindsStruct, HasNoRow, ItemGrows, is_row_of}
 use Rattle.dslx_check_declarations.proofs.Lemmas.Items.{nothing_put}

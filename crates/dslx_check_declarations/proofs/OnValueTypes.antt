@@ -32,7 +32,7 @@ use Rattle.dslx_check_rules.specs.declared.table.row.TypeId.{TypeId}
 use Rattle.dslx_check_rules.specs.declared.table.row.TypeRow.{TypeRow}
 use Rattle.dslx_check_rules.specs.declared.table.row.TypeRow.TheVariants as row
 use Rattle.dslx_check_rules.proofs.Lemmas.Rows.{items_stay_on, items_themselves, rows_stay}
-use Rattle.dslx_check_nodes.proofs.Lemmas.Lists.{with_row_kept}
+use Rattle.dslx_check_rules.proofs.Lemmas.Nodes.Lists.{with_row_kept}
 use Rattle.dslx_check_facts.specs.declared.facts.Facts.{Facts}
 use Rattle.dslx_check_facts.specs.Firsts.{IsMeant}
 use Rattle.dslx_check_facts.specs.Known.{item_names}

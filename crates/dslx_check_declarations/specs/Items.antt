@@ -25,7 +25,7 @@ use Rattle.dslx_check_rules.specs.declared.table.row.TypeRow.TheVariants as row
 use Rattle.dslx_check_rules.specs.declared.typing.Typing.{Typing}
 use Rattle.dslx_check_rules.specs.Interned.{AreDistinct, HasRowIf, ItemNames, is_item_row, type_if}
 use Rattle.dslx_check_rules.specs.Seen.{seen}
-use Rattle.dslx_check_nodes.specs.Parts.{IsPart}
+use Rattle.dslx_check_rules.specs.Nodes.Parts.{IsPart}
 use Rattle.dslx_check_facts.specs.Walks.{HasTables, WalkShown}
 
 -- ---- constants

@@ -20,3 +20,5 @@ pub mod Spawns
 pub mod Scopes
 -- tops
 pub mod Tops
+-- what is known of a text that is checked, as more and more of it is judged
+pub mod Work

@@ -14,7 +14,7 @@ use Rattle.dslx_check_rules.specs.declared.faults.Faults.{Faults}
 use Rattle.dslx_check_rules.specs.declared.table.row.TypeRow.{TypeRow}
 use Rattle.dslx_check_rules.specs.Interned.{AreDistinct, ItemNames}
 use Rattle.dslx_check_rules.specs.Seen.{seen}
-use Rattle.dslx_check_nodes.specs.Parts.{Pairs}
+use Rattle.dslx_check_rules.specs.Nodes.Parts.{Pairs}
 use Rattle.dslx_check_facts.specs.Bound.{bound_names}
 use Rattle.dslx_check_facts.specs.declared.type_env.MemberEnd.{MemberEnd}
 use Rattle.dslx_check_facts.specs.declared.type_env.TypeEnv.{TypeEnv as CodeEnv}

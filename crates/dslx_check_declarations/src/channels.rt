@@ -11,7 +11,7 @@ use crate::config::Made;
 use crate::ends::named_end;
 use base::texts::Name;
 use dslx_check_facts::{Facts, TypeEnv, local_name};
-use dslx_check_nodes::either;
+use dslx_check_rules::nodes::either;
 use dslx_check_rules::{Faults, TypeId, rule};
 use dslx_tree::{Channel, Direction};
 use std::alloc::AllocError;

@@ -11,7 +11,7 @@ ghost use Rattle.dslx_check_declarations.specs.Ends.{IsEndNamed, other_word};
 
 use base::texts::Name;
 use dslx_check_facts::MemberEnd;
-use dslx_check_nodes::either;
+use dslx_check_rules::nodes::either;
 use dslx_check_rules::{TypeId, TypeTable};
 use dslx_tree::Direction;
 

@@ -17,7 +17,7 @@ use crate::items::ItemSeen;
 use crate::structs::may_name_type;
 use base::texts::Name;
 use dslx_check_facts::{Facts, Walk, number_in};
-use dslx_check_nodes::either;
+use dslx_check_rules::nodes::either;
 use dslx_check_rules::{Faults, TypeId, TypeTable, bits_in, is_bits, rule, unless_bits};
 use dslx_meaning::{BitKind, DslxValue, UntypedLiteral};
 use dslx_values::{copy_name, enum_member};

@@ -1,5 +1,4 @@
-//! What declarations come to that needs no walk over their parts: names in lists, the types of values, what items come to from their
-//! parts, the ends of procs and what a `config` makes of them, parametrics that come into scope, and the top of a text.
+//! What declarations come to without a walk over their parts, and what is known as more is judged.
 #![tactic(auto)]
 
 mod channels;
@@ -16,6 +15,7 @@ mod spawns;
 mod structs;
 mod tops;
 mod value_types;
+pub mod work;
 
 pub use channels::{channel_names, depth_limit, make_channel};
 pub use config::Made;

@@ -9,7 +9,7 @@ ghost use Rattle.dslx_check_declarations.specs.Names.{AreBefore};
 use base::name_table::Table;
 use base::texts::Name;
 use dslx_check_facts::is_own_name;
-use dslx_check_nodes::either;
+use dslx_check_rules::nodes::either;
 use dslx_check_rules::{Faults, rule};
 use dslx_tree::Ident;
 use std::alloc::{AllocError, Global};

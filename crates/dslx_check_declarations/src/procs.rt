@@ -6,7 +6,7 @@ ghost use Rattle.dslx_meaning.specs.Rules.ProcRules as the;
 ghost use Rattle.dslx_meaning.specs.Rules.TypeEnvs.{ChannelEnd};
 ghost use Rattle.dslx_check_rules.specs.Interned.{AreDistinct, ItemNames};
 ghost use Rattle.dslx_check_rules.specs.declared.table.row.TypeRow.{TypeRow as Row};
-ghost use Rattle.dslx_check_nodes.specs.Parts.{Pairs};
+ghost use Rattle.dslx_check_rules.specs.Nodes.Parts.{Pairs};
 ghost use Rattle.dslx_check_declarations.specs.Config.{MeansEnds};
 ghost use Rattle.dslx_check_declarations.specs.Ends.{IsNamed};
 ghost use Rattle.dslx_check_declarations.specs.Procs.{AddsEnds, ConfigEnds, are_members, is_member_of, member_bound};
@@ -14,7 +14,7 @@ ghost use Rattle.dslx_check_declarations.specs.Procs.{AddsEnds, ConfigEnds, are_
 use crate::config::Made;
 use crate::ends::{NamedEnd, misfits};
 use dslx_check_facts::TypeEnv;
-use dslx_check_nodes::both;
+use dslx_check_rules::nodes::both;
 use dslx_check_rules::{Faults, TypeTable, rule};
 use dslx_tree::{Ident, Proc};
 use std::alloc::AllocError;

@@ -17,9 +17,9 @@ ghost use Rattle.dslx_check_declarations.specs.Spawns.{one_handed};
 use crate::config::Made;
 use crate::ends::misfits;
 use base::texts::Name;
-use dslx_check_control::calls::ParametricArgument;
 use dslx_check_facts::{Facts, MemberEnd};
-use dslx_check_nodes::both;
+use dslx_check_rules::control::calls::ParametricArgument;
+use dslx_check_rules::nodes::both;
 use dslx_check_rules::{Faults, TypeId, TypeTable, rule};
 use dslx_tree::{Definition, End, Ident, Proc, Spawn};
 

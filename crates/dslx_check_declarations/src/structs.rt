@@ -8,8 +8,8 @@ ghost use Rattle.dslx_check_facts.specs.Walks.{shown};
 ghost use Rattle.dslx_check_declarations.specs.Items.{FindsStruct};
 
 use dslx_check_facts::{Facts, Walk};
-use dslx_check_nodes::both;
-use dslx_check_nodes::lists::there;
+use dslx_check_rules::nodes::both;
+use dslx_check_rules::nodes::lists::there;
 use dslx_check_rules::{Faults, TypeId, TypeTable};
 use std::alloc::{AllocError, Global};
 use xb_value::Seq;

@@ -1,9 +1,9 @@
 -- Names of builtins and effects.
 use Rattle.std.proofs.Common.{◌≡◌, ◌∙◌, ℕ, Bool, true, false, List, not, refl, ap}
 use Rattle.dslx_meaning.specs.Callees.{CallKind, Calls, is_own_name, kind_of_call}
-use Rattle.dslx_names.specs.Called.{kind_of}
-use Rattle.dslx_names.specs.declared.callee.Callee.{Callee}
-use Rattle.dslx_names.specs.declared.callee.Callee.TheVariants as callee
+use Rattle.dslx_meaning.specs.Names.Called.{kind_of}
+use Rattle.dslx_meaning.specs.declared.names.callee.Callee.{Callee}
+use Rattle.dslx_meaning.specs.declared.names.callee.Callee.TheVariants as callee
 use Rattle.dslx_check_facts.specs.Callees.{is_function_callee}
 
 -- any but functions of the text

@@ -1,7 +1,7 @@
 -- What called names stand for.
 use Rattle.std.specs.Prelude.{Bool, true, false}
-use Rattle.dslx_names.specs.declared.callee.Callee.{Callee}
-use Rattle.dslx_names.specs.declared.callee.Callee.TheVariants as callee
+use Rattle.dslx_meaning.specs.declared.names.callee.Callee.{Callee}
+use Rattle.dslx_meaning.specs.declared.names.callee.Callee.TheVariants as callee
 
 -- a function of the text, which no builtin and no effect is
 abbrev pub is_function_callee : Callee → Bool

@@ -5,7 +5,7 @@ use Rattle.dslx_meaning.specs.Items.{item_named}
 use Rattle.dslx_meaning.specs.Rules.Mentions.{AsEnum, AsFunction, AsType, AsValue, is_of_use, item_reaches, mentions_of}
 use Rattle.dslx_meaning.specs.Rules.PatternRules.{is_there}
 use Rattle.dslx_meaning.specs.Rules.TypeEnvs.{GlobalEnv}
-use Rattle.dslx_names.specs.ConstMachine.Kept.{KeptValues}
+use Rattle.dslx_meaning.specs.Names.ConstMachine.Kept.{KeptValues}
 
 -- Of items whose names pass this test the values of constants and of members of enums are kept, if they have any. Items that are hidden have no
 -- type, or reach themselves, if they are functions. All others have the types that they name, mention such items alone, and don't reach themselves. Of

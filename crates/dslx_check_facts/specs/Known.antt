@@ -19,7 +19,7 @@ use Rattle.dslx_meaning.specs.declared.value.DslxValue.{DslxValue}
 use Rattle.dslx_meaning.specs.Rules.TypeEnvs.{GlobalEnv, Instance}
 use Rattle.dslx_meaning.specs.Rules.Mentions.{mentioned, names_mentioned}
 use Rattle.dslx_meaning.specs.Rules.Namesakes.{told_apart}
-use Rattle.dslx_names.specs.ConstMachine.Kept.{KeptValues, kept_within}
+use Rattle.dslx_meaning.specs.Names.ConstMachine.Kept.{KeptValues, kept_within}
 use Rattle.dslx_const_tasks.specs.Values.{values_kept}
 use Rattle.dslx_const_tasks.specs.declared.kept.Kept.{Kept}
 use Rattle.dslx_check_items.specs.Items.{item_number}

@@ -14,7 +14,7 @@ ghost use Rattle.dslx_check_facts.specs.Walks.{WalkShown};
 use crate::facts::Facts;
 use base::texts::Name;
 use dslx_check_rules::{Faults, rule};
-use dslx_names::{Callee, callee_of};
+use dslx_meaning::names::{Callee, callee_of};
 use dslx_tree::Ident;
 use xb_span::Span;
 

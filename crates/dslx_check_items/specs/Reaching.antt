@@ -1,6 +1,6 @@
 -- Which items reach which, by number.
 use Rattle.std.specs.Prelude.{◌≡◌, ℕ, List, [], ◌∷◌, map, length, slice_get, Bool, Option, Some, None, MatchBool}
-use Rattle.topo_order.specs.Needs.{AreGroups, Reaches}
+use Rattle.base.specs.TopoOrder.Needs.{AreGroups, Reaches}
 use Rattle.dslx_tree.specs.declared.item.Definition.{Definition}
 use Rattle.dslx_tree.specs.declared.item.Item.{Item}
 use Rattle.dslx_tree.specs.declared.item.Module.{Module}

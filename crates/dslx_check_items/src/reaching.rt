@@ -1,7 +1,7 @@
 //! Which items reach which, by what their texts mention.
 
 ghost use Rattle.std.specs.Prelude.{◌≡◌, ◌<◌, ◌^◌, ◌++◌, ℕ, List, Some, length, MatchBool, IfOk, OnOk};
-ghost use Rattle.topo_order.specs.Needs.{AreClosed, AreMutual, Reaches};
+ghost use Rattle.base.specs.TopoOrder.Needs.{AreClosed, AreMutual, Reaches};
 ghost use Rattle.dslx_meaning.specs.Rules.Mentions.{AsEnum, AsFunction, AsPattern, AsProc, AsStruct, AsType, AsValue, is_of_use as the_use};
 ghost use Rattle.dslx_check_items.specs.Shown.{mention_shown, use_shown};
 ghost use Rattle.dslx_check_items.specs.Reaching.{AreReached, definition_needs as the_needs, item_needs};
@@ -10,10 +10,10 @@ ghost use Rattle.dslx_check_items.specs.Inner.Targets.{target_of as the_target, 
 use crate::definitions::mentions_of;
 use crate::mention::{Mention, Use};
 use crate::table::ItemTable;
+use base::topo_order::{groups_of, needing_themselves};
 use dslx_tree::Definition;
 use sqlite_items::Items;
 use std::alloc::{AllocError, Global};
-use topo_order::{groups_of, needing_themselves};
 
 /// Which items of a text reach themselves, and which one another: by mentioning them, or something that reaches them.
 #[derive(Drop)]

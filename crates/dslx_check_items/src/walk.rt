@@ -5,7 +5,7 @@ ghost use Rattle.dslx_check_items.specs.Inner.Plain.{walk_shown};
 
 use crate::mention::{Mention, Use};
 use base::texts::Name;
-use dslx_names::{BoundNames, Callee, callee_of};
+use dslx_meaning::names::{BoundNames, Callee, callee_of};
 use std::alloc::{AllocError, Global};
 
 /// What is mentioned so far, and what is bound there.

@@ -1,6 +1,4 @@
--- lists whose elements have names
-pub mod OnLists
--- written types and constants
-pub mod OnTrees
--- what items are called
-pub mod OnNames
+-- what items come to, by walks over their parts
+pub mod Items
+-- what instances of functions and procs come to, by walks over their parts
+pub mod Instances

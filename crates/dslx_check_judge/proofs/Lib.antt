@@ -1,14 +1,6 @@
+-- what items come to, by walks over their parts
+pub mod OnItems
 -- lemmas for other crates
 pub mod Lemmas
--- fields
-pub mod OnFields
--- items by their numbers
-pub mod OnItems
--- structs
-pub mod OnStructs
--- members of enums
-pub mod OnMembers
--- enums
-pub mod OnEnums
--- constants
-pub mod OnConstants
+-- what instances of functions and procs come to, by walks over their parts
+pub mod OnInstances

@@ -1,6 +1,4 @@
--- lists whose elements have names
-pub mod Lists
--- what items come to
-pub mod Judged
--- contracts of private parts
-pub mod Inner
+-- what items come to, by walks over their parts
+pub mod Items
+-- what instances of functions and procs come to, by walks over their parts
+pub mod Instances

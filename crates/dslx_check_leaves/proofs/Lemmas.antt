@@ -32,3 +32,5 @@ pub mod OnCalls
 pub mod OnOneValue
 -- effects
 pub mod OnEffects
+-- which values patterns fit, and whether a match fits all
+pub mod Fits

@@ -10,7 +10,7 @@ use Rattle.dslx_tree.proofs.Lemmas.Folds.Folds.{Steps, folds, fold_number}
 use Rattle.dslx_meaning.specs.Activation.{NodeLayer, node_of}
 use Rattle.dslx_meaning.specs.Meaning as m
 use Rattle.dslx_meaning.specs.Meaning.{ArmDen, ExprDen, FieldDen, PatternDen, StmtDen, TypeDen, ValueDen, denotation}
-use Rattle.dslx_names.specs.ConstMachine.Layers.{bare_node, untyped_of, without_type, written}
+use Rattle.dslx_meaning.specs.Names.ConstMachine.Layers.{bare_node, untyped_of, without_type, written}
 
 abbrev meanings : Carriers
 meanings = record {

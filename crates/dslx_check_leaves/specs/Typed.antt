@@ -24,7 +24,7 @@ use Rattle.dslx_meaning.specs.Rules.NameRules.{member_typing, name_typing}
 use Rattle.dslx_meaning.specs.Rules.CallRules.{ParametricArgument, builtin_typing, counting, first_operand_type, function_call, only_on_top, channel_seen, held_typing, token_typing, wrong_call, wrong_effect}
 use Rattle.dslx_meaning.specs.Callees.{CallKind}
 use Rattle.dslx_tree.specs.declared.process.Direction.{Direction}
-use Rattle.dslx_check_control.specs.Effects.{effect_of}
+use Rattle.dslx_check_rules.specs.Control.Effects.{effect_of}
 use Rattle.dslx_check_uses.specs.declared.forms.CallForm.{CallForm}
 use Rattle.dslx_check_uses.specs.declared.forms.CallForm.TheVariants as form
 use Rattle.dslx_check_uses.specs.Forms.{form_by}
@@ -36,12 +36,12 @@ use Rattle.dslx_meaning.specs.Rules.TypeRules.{inner_types}
 use Rattle.dslx_meaning.specs.Rules.NodeRules.{block_pair, typing_steps}
 use Rattle.dslx_meaning.specs.Rules.Paired.{paired_stmt}
 use Rattle.dslx_meaning.specs.Rules.RuleNumbers as rule
-use Rattle.dslx_check_nodes.specs.Nodes.Counts.{wide_of}
-use Rattle.dslx_check_nodes.specs.Nodes.Arrays.{ElementSeen, Untyped, Value}
-use Rattle.dslx_check_nodes.specs.Parts.{Placed}
+use Rattle.dslx_check_rules.specs.Nodes.Nodes.Counts.{wide_of}
+use Rattle.dslx_check_rules.specs.Nodes.Nodes.Arrays.{ElementSeen, Untyped, Value}
+use Rattle.dslx_check_rules.specs.Nodes.Parts.{Placed}
 use Rattle.dslx_tree.specs.declared.item.Function.{Function}
-use Rattle.dslx_check_constants.specs.Constants.{expr_typed}
-use Rattle.dslx_check_fits.specs.Typed.{type_typed, pattern_typed, number_at, PatternFrom}
+use Rattle.dslx_check_leaves.specs.Named.Constants.{expr_typed}
+use Rattle.dslx_check_leaves.specs.Fits.Typed.{type_typed, pattern_typed, number_at, PatternFrom}
 
 abbrev pub block_typed : Block → BlockPair
 block_typed b = (b, (block_pair b).1)

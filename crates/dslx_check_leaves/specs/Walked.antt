@@ -12,32 +12,32 @@ use Rattle.dslx_check_facts.specs.declared.type_env.TypeEnv.{TypeEnv as CodeEnv}
 use Rattle.dslx_check_facts.specs.Judged.{Comes, environment}
 use Rattle.dslx_check_facts.specs.Known.{item_names}
 use Rattle.dslx_check_facts.specs.Walks.{WalkShown, WalkGrows, instances_at}
-use Rattle.dslx_check_nodes.specs.declared.parts.ConstantTyping.{ConstantTyping}
-use Rattle.dslx_check_nodes.specs.declared.parts.CountTyping.{CountTyping}
-use Rattle.dslx_check_nodes.specs.declared.parts.Spanned.{Spanned}
+use Rattle.dslx_check_rules.specs.declared.nodes.parts.ConstantTyping.{ConstantTyping}
+use Rattle.dslx_check_rules.specs.declared.nodes.parts.CountTyping.{CountTyping}
+use Rattle.dslx_check_rules.specs.declared.nodes.parts.Spanned.{Spanned}
 use Rattle.std.specs.List.{AllByRecursion}
 use Rattle.dslx_meaning.specs.Rules.Typings.{ArmSeen as ArmTree, PatternPair, PatternSeen, StatementSeen}
 use Rattle.dslx_meaning.specs.Rules.ControlRules.{ArmTyping as ArmSeen, alternatives_seen, annotation_reached, arm_typing}
 use Rattle.dslx_check_rules.specs.declared.faults.Faults.{Faults}
 use Rattle.dslx_check_rules.specs.Seen.{seen}
-use Rattle.dslx_check_control.specs.declared.effects.ChannelTyping.{ChannelTyping}
-use Rattle.dslx_check_control.specs.Effects.{IsEffectChannel}
-use Rattle.dslx_check_control.specs.declared.matches.ArmTyping.{ArmTyping}
-use Rattle.dslx_check_control.specs.declared.matches.AlternativesTyping.{AlternativesTyping}
-use Rattle.dslx_check_control.specs.Matches.{AreArms, IsAlternatives, IsArm}
-use Rattle.dslx_check_control.specs.declared.calls.ParametricArgument.{ParametricArgument}
-use Rattle.dslx_check_control.specs.Calls.{IsGiven}
+use Rattle.dslx_check_rules.specs.declared.control.effects.ChannelTyping.{ChannelTyping}
+use Rattle.dslx_check_rules.specs.Control.Effects.{IsEffectChannel}
+use Rattle.dslx_check_rules.specs.declared.control.matches.ArmTyping.{ArmTyping}
+use Rattle.dslx_check_rules.specs.declared.control.matches.AlternativesTyping.{AlternativesTyping}
+use Rattle.dslx_check_rules.specs.Control.Matches.{AreArms, IsAlternatives, IsArm}
+use Rattle.dslx_check_rules.specs.declared.control.calls.ParametricArgument.{ParametricArgument}
+use Rattle.dslx_check_rules.specs.Control.Calls.{IsGiven}
 use Rattle.dslx_check_rules.specs.declared.table.row.TypeId.{TypeId}
 use Rattle.dslx_check_facts.specs.Bound.{bound_names}
 use Rattle.dslx_check_facts.specs.TypeEnvs.{HasBoundRows, typed_of}
-use Rattle.dslx_check_control.specs.declared.control.StatementTyping.{StatementTyping}
-use Rattle.dslx_check_control.specs.declared.patterns.PatternTyping.{PatternTyping}
-use Rattle.dslx_check_control.specs.Control.{IsStatement}
-use Rattle.dslx_check_control.specs.Patterns.{IsPattern}
-use Rattle.dslx_check_nodes.specs.declared.arrays.Element.{Element}
-use Rattle.dslx_check_nodes.specs.Nodes.Arrays.{ElementSeen, IsElement, Untyped, Value}
-use Rattle.dslx_check_nodes.specs.Parts.{Pairs, IsPart, IsPartIf, IsConstant, IsCount, IsPlaced, IsPlacedIf, Placed}
-use Rattle.dslx_check_fits.specs.Typed.{PatternFrom}
+use Rattle.dslx_check_rules.specs.declared.control.control.StatementTyping.{StatementTyping}
+use Rattle.dslx_check_rules.specs.declared.control.patterns.PatternTyping.{PatternTyping}
+use Rattle.dslx_check_rules.specs.Control.Control.{IsStatement}
+use Rattle.dslx_check_rules.specs.Control.Patterns.{IsPattern}
+use Rattle.dslx_check_rules.specs.declared.nodes.arrays.Element.{Element}
+use Rattle.dslx_check_rules.specs.Nodes.Nodes.Arrays.{ElementSeen, IsElement, Untyped, Value}
+use Rattle.dslx_check_rules.specs.Nodes.Parts.{Pairs, IsPart, IsPartIf, IsConstant, IsCount, IsPlaced, IsPlacedIf, Placed}
+use Rattle.dslx_check_leaves.specs.Fits.Typed.{PatternFrom}
 
 -- what is said of what a walk comes to: by the rows at its end and a later walk, by the instances that it reached, at a type environment
 abbrev pub Claim : Type 1

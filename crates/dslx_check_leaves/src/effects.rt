@@ -3,17 +3,17 @@
 ghost use Rattle.std.specs.Prelude.{◌≡◌, ◌&&◌, OnOk};
 ghost use Rattle.std.specs.Option.{option_copied};
 ghost use Rattle.dslx_meaning.specs.Rules.EffectNames as effects;
-ghost use Rattle.dslx_names.specs.Called.{kind_of};
-ghost use Rattle.dslx_check_nodes.specs.Parts.{FromOne};
+ghost use Rattle.dslx_meaning.specs.Names.Called.{kind_of};
+ghost use Rattle.dslx_check_rules.specs.Nodes.Parts.{FromOne};
 ghost use Rattle.dslx_check_leaves.specs.Typed as tree;
 ghost use Rattle.dslx_check_leaves.specs.Walked.{used_now};
 
 use base::texts::Name;
 use dslx_check_facts::TypeEnv;
-use dslx_check_nodes::aggregates::no_token;
+use dslx_check_rules::nodes::aggregates::no_token;
 use dslx_check_rules::{TypeTable, Typing};
 use dslx_check_uses::name_of;
-use dslx_names::{Callee, callee_of};
+use dslx_meaning::names::{Callee, callee_of};
 use dslx_tree::{Arg, Expr, Node};
 use std::alloc::AllocError;
 

@@ -4,7 +4,7 @@ ghost use Rattle.std.specs.Prelude.{◌≡◌, IfOk};
 ghost use Rattle.dslx_meaning.specs.Meaning.{denotation};
 ghost use Rattle.dslx_meaning.specs.Rules.TypeEnvs as env;
 ghost use Rattle.dslx_meaning.specs.Rules.NameRules as names;
-ghost use Rattle.dslx_names.specs.ConstMachine.Layers.{untyped_of as untyped_by_node};
+ghost use Rattle.dslx_meaning.specs.Names.ConstMachine.Layers.{untyped_of as untyped_by_node};
 ghost use Rattle.dslx_check_facts.specs.Walks.{shown};
 ghost use Rattle.dslx_check_leaves.specs.Walked.{JudgesPart};
 

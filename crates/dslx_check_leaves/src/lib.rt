@@ -1,4 +1,4 @@
-//! The typings of the parts of a DSLX text that have no parts of their own, and what a walk over a text's parts promises.
+//! The typings of parts that have no parts of their own, and what a walk over a text promises.
 //!
 //! specs/Walked says what a function of a walk promises, and proofs/Lemmas how such promises are put together. The walk itself is
 //! elsewhere.
@@ -7,6 +7,8 @@
 mod constants;
 mod effects;
 mod exprs;
+pub mod fits;
+pub mod named;
 mod patterns;
 mod types;
 

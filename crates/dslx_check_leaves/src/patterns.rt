@@ -12,10 +12,10 @@ ghost use Rattle.dslx_check_leaves.specs.Typed as tree;
 ghost use Rattle.dslx_check_leaves.specs.Walked.{JudgedPattern, all_bound};
 
 use base::texts::Name;
-use dslx_check_control::patterns::{self, PatternTyping};
 use dslx_check_facts::{
     Bindings, Facts, TypeEnv, Walk, constant_type, local_name_faults, member_typing, member_value,
 };
+use dslx_check_rules::control::patterns::{self, PatternTyping};
 use dslx_check_rules::{Faults, TypeId, rule};
 use dslx_meaning::{BitKind, DslxValue};
 use dslx_tree::Ident;

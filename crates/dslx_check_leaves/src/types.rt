@@ -2,11 +2,11 @@
 
 ghost use Rattle.std.specs.Prelude.{IfOk};
 ghost use Rattle.dslx_check_facts.specs.Walks.{shown};
-ghost use Rattle.dslx_check_constants.specs.TypeNames.{name_at};
+ghost use Rattle.dslx_check_leaves.specs.Named.TypeNames.{name_at};
 ghost use Rattle.dslx_check_leaves.specs.Walked.{JudgesPart};
 
+use crate::named::type_named;
 use base::texts::Name;
-use dslx_check_constants::type_named;
 use dslx_check_facts::{Facts, TypeEnv, Walk};
 use dslx_check_rules::Typing;
 use std::alloc::AllocError;

@@ -24,23 +24,23 @@ use Rattle.base.specs.Lists.Prefix.{IsPrefix}
 use Rattle.dslx_check_facts.specs.declared.facts.Facts.{Facts}
 use Rattle.dslx_check_facts.specs.declared.type_env.TypeEnv.{TypeEnv as CodeEnv}
 use Rattle.dslx_check_facts.specs.Walks.{WalkShown}
-use Rattle.dslx_check_nodes.specs.declared.arrays.Element.{Element}
-use Rattle.dslx_check_nodes.specs.declared.parts.Spanned.{Spanned}
-use Rattle.dslx_check_nodes.specs.Nodes.Arrays.{FromElements, IsElement, typed_array_of}
-use Rattle.dslx_check_nodes.specs.Parts.{FromAll, IsPart, IsPlaced, Placed}
-use Rattle.dslx_check_control.specs.declared.matches.AlternativesTyping.{AlternativesTyping}
-use Rattle.dslx_check_control.specs.declared.matches.ArmTyping.{ArmTyping}
-use Rattle.dslx_check_control.specs.declared.patterns.PatternTyping.{PatternTyping}
-use Rattle.dslx_check_control.specs.Patterns.{IsPattern}
+use Rattle.dslx_check_rules.specs.declared.nodes.arrays.Element.{Element}
+use Rattle.dslx_check_rules.specs.declared.nodes.parts.Spanned.{Spanned}
+use Rattle.dslx_check_rules.specs.Nodes.Nodes.Arrays.{FromElements, IsElement, typed_array_of}
+use Rattle.dslx_check_rules.specs.Nodes.Parts.{FromAll, IsPart, IsPlaced, Placed}
+use Rattle.dslx_check_rules.specs.declared.control.matches.AlternativesTyping.{AlternativesTyping}
+use Rattle.dslx_check_rules.specs.declared.control.matches.ArmTyping.{ArmTyping}
+use Rattle.dslx_check_rules.specs.declared.control.patterns.PatternTyping.{PatternTyping}
+use Rattle.dslx_check_rules.specs.Control.Patterns.{IsPattern}
 use Rattle.dslx_check_uses.specs.declared.forms.CallForm.{CallForm}
 use Rattle.dslx_check_uses.specs.declared.forms.CallForm.TheVariants as form
 use Rattle.dslx_check_uses.specs.Forms.{form_by}
-use Rattle.dslx_check_constants.specs.Constants.{expr_typed}
-use Rattle.dslx_check_fits.specs.Typed.{PatternFrom, arm_typed, number_at, number_pattern_at, pattern_typed, type_typed}
+use Rattle.dslx_check_leaves.specs.Named.Constants.{expr_typed}
+use Rattle.dslx_check_leaves.specs.Fits.Typed.{PatternFrom, arm_typed, number_at, number_pattern_at, pattern_typed, type_typed}
 use Rattle.dslx_check_leaves.proofs.Lemmas.Moving.{restated}
 use Rattle.dslx_tree.specs.declared.block.Stmt.{Stmt}
 use Rattle.dslx_meaning.specs.Rules.ControlRules.{statements_typing}
-use Rattle.dslx_check_control.specs.declared.control.StatementTyping.{StatementTyping}
+use Rattle.dslx_check_rules.specs.declared.control.control.StatementTyping.{StatementTyping}
 use Rattle.dslx_check_leaves.specs.Typed.{stmt_typed, builtin_by, call_at, call_by, effect_at, element_at, function_at, given_at}
 use Rattle.dslx_check_leaves.specs.Walked.{JudgedAlternatives, Moved, TypesStatements, PatternNames, WalksTo, TypesArm, TypesArms, TypesEach, TypesOne, TypesPart, TypesPattern, all_bound, all_reached, element_reached, reached_there, used_now}
 use Rattle.dslx_check_leaves.proofs.Lemmas.Each.{each_by, elements_reach, next_of, none_yet, of_all, of_elements, one_more}

@@ -10,9 +10,9 @@ use Rattle.dslx_check_rules.specs.declared.table.row.TypeId.{TypeId}
 use Rattle.dslx_check_facts.specs.declared.facts.Facts.{Facts}
 use Rattle.dslx_check_facts.specs.declared.type_env.TypeEnv.{TypeEnv as CodeEnv}
 use Rattle.dslx_check_facts.specs.Walks.{WalkShown}
-use Rattle.dslx_check_control.specs.declared.control.StatementTyping.{StatementTyping}
-use Rattle.dslx_check_control.specs.declared.matches.AlternativesTyping.{AlternativesTyping}
-use Rattle.dslx_check_fits.specs.Typed.{pattern_typed}
+use Rattle.dslx_check_rules.specs.declared.control.control.StatementTyping.{StatementTyping}
+use Rattle.dslx_check_rules.specs.declared.control.matches.AlternativesTyping.{AlternativesTyping}
+use Rattle.dslx_check_leaves.specs.Fits.Typed.{pattern_typed}
 use Rattle.dslx_check_leaves.specs.Typed.{stmt_typed}
 use Rattle.dslx_check_leaves.specs.Walked.{Moved, PatternNames, TypesStatements, used_now}
 use Rattle.dslx_check_leaves.proofs.Lemmas.Binding.{scope_behind}

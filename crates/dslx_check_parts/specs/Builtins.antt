@@ -5,7 +5,7 @@ use Rattle.dslx_tree.specs.declared.expr.Expr.{Expr}
 use Rattle.dslx_meaning.specs.Callees.{AllOnes, CallKind, Calls, CountsLeading, CountsTrailing, Joins, Parity, Receives, ReceivesIf, Reverses, Sends, SendsIf, SomeOne, Updates}
 use Rattle.dslx_meaning.specs.Rules.CallRules.{joining, updating}
 use Rattle.dslx_meaning.specs.Rules.TypeEnvs.{Judgement, TypeEnv, all_alone}
-use Rattle.dslx_check_constants.specs.Constants.{expr_typed}
+use Rattle.dslx_check_leaves.specs.Named.Constants.{expr_typed}
 use Rattle.dslx_check_leaves.specs.Typed.{counting_at}
 use Rattle.dslx_check_parts.specs.declared.builtins.BuiltinForm.{BuiltinForm}
 use Rattle.dslx_check_parts.specs.declared.builtins.BuiltinForm.TheVariants as form

@@ -11,9 +11,9 @@ use Rattle.dslx_check_rules.specs.Interned.{ItemNames}
 use Rattle.dslx_check_facts.specs.declared.facts.Facts.{Facts}
 use Rattle.dslx_check_facts.specs.declared.type_env.TypeEnv.{TypeEnv as CodeEnv}
 use Rattle.dslx_check_facts.specs.Walks.{WalkShown, instances_at}
-use Rattle.dslx_check_nodes.specs.Parts.{IsConstant, IsPart, IsPartIf}
-use Rattle.dslx_check_constants.specs.Constants.{expr_typed}
-use Rattle.dslx_check_fits.specs.Typed.{type_typed}
+use Rattle.dslx_check_rules.specs.Nodes.Parts.{IsConstant, IsPart, IsPartIf}
+use Rattle.dslx_check_leaves.specs.Named.Constants.{expr_typed}
+use Rattle.dslx_check_leaves.specs.Fits.Typed.{type_typed}
 use Rattle.dslx_check_leaves.specs.Walked.{WalksTo}
 use Rattle.dslx_check_parts.specs.declared.loops.LoopHeads.{LoopHeads}
 

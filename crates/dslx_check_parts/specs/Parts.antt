@@ -7,11 +7,11 @@ use Rattle.dslx_check_rules.specs.declared.table.row.TypeId.{TypeId}
 use Rattle.dslx_check_facts.specs.declared.facts.Facts.{Facts}
 use Rattle.dslx_check_facts.specs.declared.type_env.TypeEnv.{TypeEnv as CodeEnv}
 use Rattle.dslx_check_facts.specs.Walks.{WalkShown}
-use Rattle.dslx_check_control.specs.declared.calls.ParametricArgument.{ParametricArgument}
-use Rattle.dslx_check_control.specs.declared.matches.AlternativesTyping.{AlternativesTyping}
-use Rattle.dslx_check_control.specs.declared.patterns.PatternTyping.{PatternTyping}
-use Rattle.dslx_check_control.specs.Calls.{IsGiven}
-use Rattle.dslx_check_fits.specs.Typed.{PatternFrom}
+use Rattle.dslx_check_rules.specs.declared.control.calls.ParametricArgument.{ParametricArgument}
+use Rattle.dslx_check_rules.specs.declared.control.matches.AlternativesTyping.{AlternativesTyping}
+use Rattle.dslx_check_rules.specs.declared.control.patterns.PatternTyping.{PatternTyping}
+use Rattle.dslx_check_rules.specs.Control.Calls.{IsGiven}
+use Rattle.dslx_check_leaves.specs.Fits.Typed.{PatternFrom}
 use Rattle.dslx_check_leaves.specs.Walked.{JudgedAlternatives, PatternNames, TypesOne, TypesPattern, WalksTo, all_bound, given_reached}
 
 -- a parametric argument that is written

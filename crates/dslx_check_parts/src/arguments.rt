@@ -9,11 +9,11 @@ ghost use Rattle.dslx_check_parts.specs.Parts.{GivenOne};
 
 use crate::constants::constant;
 use crate::exprs::{alone, placed};
-use dslx_check_control::calls::ParametricArgument;
 use dslx_check_facts::{Facts, TypeEnv, Walk};
 use dslx_check_leaves::name_node;
-use dslx_check_nodes::Spanned;
-use dslx_check_nodes::aggregates::no_token;
+use dslx_check_rules::control::calls::ParametricArgument;
+use dslx_check_rules::nodes::Spanned;
+use dslx_check_rules::nodes::aggregates::no_token;
 use dslx_tree::{Arg, Expr, FieldValue};
 use std::alloc::AllocError;
 use xb_value::Boxed;

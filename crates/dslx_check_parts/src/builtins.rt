@@ -4,8 +4,8 @@ ghost use Rattle.std.specs.Prelude.{◌≡◌, [], IfOk, map};
 ghost use Rattle.dslx_meaning.specs.Rules.CallRules as the;
 ghost use Rattle.dslx_meaning.specs.Rules.CallRules.{wrong_call};
 ghost use Rattle.dslx_meaning.specs.Rules.TypeEnvs.{all_alone};
-ghost use Rattle.dslx_names.specs.Called.{kind_of};
-ghost use Rattle.dslx_check_constants.specs.Constants.{expr_typed};
+ghost use Rattle.dslx_meaning.specs.Names.Called.{kind_of};
+ghost use Rattle.dslx_check_leaves.specs.Named.Constants.{expr_typed};
 ghost use Rattle.dslx_check_facts.specs.Walks.{shown};
 ghost use Rattle.dslx_check_leaves.specs.Typed as tree;
 ghost use Rattle.dslx_check_leaves.specs.Walked.{JudgesPart};
@@ -13,12 +13,12 @@ ghost use Rattle.dslx_check_parts.specs.Builtins.{builtin_by_form, builtin_form_
 
 use crate::arguments::{all_given, all_placed};
 use crate::tokens::all_tokens;
-use dslx_check_calls::refused_call;
-use dslx_check_control::calls::{counting_typing, updating_typing};
-use dslx_check_control::effects::joining_typing;
 use dslx_check_facts::{Facts, TypeEnv, Walk};
+use dslx_check_rules::control::calls::{counting_typing, updating_typing};
+use dslx_check_rules::control::effects::joining_typing;
 use dslx_check_rules::{Faults, Typing};
-use dslx_names::Callee;
+use dslx_check_uses::refused_call;
+use dslx_meaning::names::Callee;
 use dslx_tree::{Arg, Expr};
 use std::alloc::AllocError;
 use xb_span::Span;

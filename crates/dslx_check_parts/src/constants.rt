@@ -2,16 +2,16 @@
 
 ghost use Rattle.std.specs.Prelude.{IfOk};
 ghost use Rattle.dslx_meaning.specs.Rules.ConstantRules as the;
-ghost use Rattle.dslx_check_constants.specs.Constants.{expr_typed};
+ghost use Rattle.dslx_check_leaves.specs.Named.Constants.{expr_typed};
 ghost use Rattle.dslx_check_facts.specs.Walks.{shown};
 ghost use Rattle.dslx_check_leaves.specs.Walked.{JudgedConstant, JudgedCount};
 
 use crate::exprs::alone;
-use dslx_check_constants::{constant_typing, untyped_constant};
 use dslx_check_facts::{Facts, TypeEnv, Walk};
+use dslx_check_leaves::named::{constant_typing, untyped_constant};
 use dslx_check_leaves::{HeldConstant, untyped_of};
-use dslx_check_nodes::counts::count_typing;
-use dslx_check_nodes::{ConstantTyping, CountTyping};
+use dslx_check_rules::nodes::counts::count_typing;
+use dslx_check_rules::nodes::{ConstantTyping, CountTyping};
 use dslx_tree::Expr;
 use std::alloc::AllocError;
 

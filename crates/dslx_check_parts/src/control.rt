@@ -3,17 +3,17 @@
 ghost use Rattle.std.specs.Prelude.{IfOk};
 ghost use Rattle.std.specs.Option.{option_map};
 ghost use Rattle.dslx_meaning.specs.Rules.ControlRules as the;
-ghost use Rattle.dslx_check_constants.specs.Constants.{expr_typed};
+ghost use Rattle.dslx_check_leaves.specs.Named.Constants.{expr_typed};
 ghost use Rattle.dslx_check_facts.specs.Walks.{shown};
 ghost use Rattle.dslx_check_leaves.specs.Typed as tree;
 ghost use Rattle.dslx_check_leaves.specs.Walked.{JudgesPart};
 
 use crate::exprs::alone;
 use crate::sequences::statements;
-use dslx_check_control::control::{block_typing, if_typing, no_value};
 use dslx_check_facts::{Facts, TypeEnv, Walk};
-use dslx_check_nodes::Spanned;
 use dslx_check_rules::Typing;
+use dslx_check_rules::control::control::{block_typing, if_typing, no_value};
+use dslx_check_rules::nodes::Spanned;
 use dslx_tree::{Block, Expr};
 use std::alloc::AllocError;
 use xb_span::Span;

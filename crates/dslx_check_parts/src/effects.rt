@@ -2,19 +2,19 @@
 
 ghost use Rattle.std.specs.Prelude.{◌∷◌, IfOk, map};
 ghost use Rattle.dslx_meaning.specs.Rules.CallRules as the;
-ghost use Rattle.dslx_check_constants.specs.Constants.{expr_typed};
+ghost use Rattle.dslx_check_leaves.specs.Named.Constants.{expr_typed};
 ghost use Rattle.dslx_check_facts.specs.Walks.{shown};
-ghost use Rattle.dslx_check_control.specs.Effects as half;
+ghost use Rattle.dslx_check_rules.specs.Control.Effects as half;
 ghost use Rattle.dslx_check_leaves.specs.Typed as tree;
 ghost use Rattle.dslx_check_leaves.specs.Walked.{JudgedFaults, JudgesPart};
 
 use crate::arguments::{all_given, all_placed};
 use crate::tokens::{channel, held, token};
-use dslx_check_control::calls::{given_faults, wrong_call_typing};
-use dslx_check_control::effects::{effect_typing, only_on_top};
 use dslx_check_facts::{Facts, TypeEnv, Walk};
 use dslx_check_leaves::fits_effect;
-use dslx_check_nodes::lists::faults_of_all;
+use dslx_check_rules::control::calls::{given_faults, wrong_call_typing};
+use dslx_check_rules::control::effects::{effect_typing, only_on_top};
+use dslx_check_rules::nodes::lists::faults_of_all;
 use dslx_check_rules::{Faults, Typing};
 use dslx_tree::{Arg, Direction, Expr};
 use std::alloc::AllocError;

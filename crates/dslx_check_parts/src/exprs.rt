@@ -2,7 +2,7 @@
 
 ghost use Rattle.std.specs.Prelude.{IfOk};
 ghost use Rattle.dslx_meaning.specs.Rules.TypeEnvs as env;
-ghost use Rattle.dslx_check_constants.specs.Constants.{expr_typed};
+ghost use Rattle.dslx_check_leaves.specs.Named.Constants.{expr_typed};
 ghost use Rattle.dslx_check_facts.specs.Walks.{shown};
 ghost use Rattle.dslx_check_leaves.specs.Typed as tree;
 ghost use Rattle.dslx_check_leaves.specs.Walked.{JudgesPart, PlacedOne};
@@ -17,9 +17,9 @@ use crate::numbers::{bool_value, number_node};
 use crate::operators::{binary, cast, part, prefix, slice};
 use dslx_check_facts::{Facts, TypeEnv, Walk};
 use dslx_check_leaves::{member_node, name_node};
-use dslx_check_nodes::Spanned;
-use dslx_check_nodes::aggregates::no_token;
 use dslx_check_rules::Typing;
+use dslx_check_rules::nodes::Spanned;
+use dslx_check_rules::nodes::aggregates::no_token;
 use dslx_tree::{Expr, Node};
 use std::alloc::AllocError;
 

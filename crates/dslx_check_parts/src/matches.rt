@@ -2,18 +2,18 @@
 
 ghost use Rattle.std.specs.Prelude.{IfOk, map};
 ghost use Rattle.dslx_meaning.specs.Rules.ControlRules.{match_typing};
-ghost use Rattle.dslx_check_constants.specs.Constants.{expr_typed};
+ghost use Rattle.dslx_check_leaves.specs.Named.Constants.{expr_typed};
 ghost use Rattle.dslx_check_facts.specs.Walks.{shown};
-ghost use Rattle.dslx_check_fits.specs.Typed.{arm_typed, pattern_typed};
+ghost use Rattle.dslx_check_leaves.specs.Fits.Typed.{arm_typed, pattern_typed};
 ghost use Rattle.dslx_check_leaves.specs.Walked.{JudgedAlternatives, JudgedArm, JudgedArms, JudgesPart};
 ghost use Rattle.dslx_check_parts.specs.Parts.{BindsAlternatives};
 
 use crate::exprs::alone;
 use crate::patterns::pattern;
-use dslx_check_control::matches::{AlternativesTyping, ArmTyping};
 use dslx_check_facts::{Bindings, Facts, TypeEnv, Walk};
-use dslx_check_fits::match_of;
+use dslx_check_leaves::fits::match_of;
 use dslx_check_leaves::{Names, bind_last_first};
+use dslx_check_rules::control::matches::{AlternativesTyping, ArmTyping};
 use dslx_check_rules::{TypeId, Typing};
 use dslx_tree::{Arm, Expr, Pattern};
 use std::alloc::AllocError;

@@ -2,14 +2,14 @@
 
 ghost use Rattle.std.specs.Prelude.{IfOk};
 ghost use Rattle.dslx_check_facts.specs.Walks.{shown};
-ghost use Rattle.dslx_check_fits.specs.Typed as fits;
-ghost use Rattle.dslx_check_nodes.specs.Nodes.Aggregates as half;
+ghost use Rattle.dslx_check_leaves.specs.Fits.Typed as fits;
+ghost use Rattle.dslx_check_rules.specs.Nodes.Nodes.Aggregates as half;
 ghost use Rattle.dslx_check_leaves.specs.Typed as tree;
 ghost use Rattle.dslx_check_leaves.specs.Walked.{JudgesPart};
 
 use crate::types::type_expr;
 use dslx_check_facts::{Facts, TypeEnv, Walk};
-use dslx_check_nodes::aggregates::{bool_node, number_typing, untyped_number};
+use dslx_check_rules::nodes::aggregates::{bool_node, number_typing, untyped_number};
 use dslx_check_rules::{Typing, limited};
 use dslx_meaning::UntypedLiteral;
 use dslx_tree::Number;

@@ -2,17 +2,17 @@
 
 ghost use Rattle.std.specs.Prelude.{IfOk};
 ghost use Rattle.dslx_meaning.specs.Rules.OperatorRules as operators;
-ghost use Rattle.dslx_check_constants.specs.Constants.{expr_typed};
+ghost use Rattle.dslx_check_leaves.specs.Named.Constants.{expr_typed};
 ghost use Rattle.dslx_check_facts.specs.Walks.{shown};
-ghost use Rattle.dslx_check_fits.specs.Typed.{type_typed};
+ghost use Rattle.dslx_check_leaves.specs.Fits.Typed.{type_typed};
 ghost use Rattle.dslx_check_leaves.specs.Walked.{JudgesPart};
 
 use crate::constants::constant_or_untyped;
 use crate::exprs::alone;
 use crate::types::type_expr;
 use dslx_check_facts::{Facts, TypeEnv, Walk};
-use dslx_check_nodes::{Spanned, operators as nodes};
 use dslx_check_rules::Typing;
+use dslx_check_rules::nodes::{Spanned, operators as nodes};
 use dslx_tree::{Binary, Expr, TypeExpr};
 use std::alloc::AllocError;
 use xb_span::Span;

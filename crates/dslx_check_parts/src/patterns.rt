@@ -2,18 +2,18 @@
 
 ghost use Rattle.std.specs.Prelude.{IfOk};
 ghost use Rattle.dslx_check_facts.specs.Walks.{shown};
-ghost use Rattle.dslx_check_fits.specs.Typed as fits;
-ghost use Rattle.dslx_check_fits.specs.Typed.{pattern_typed};
+ghost use Rattle.dslx_check_leaves.specs.Fits.Typed as fits;
+ghost use Rattle.dslx_check_leaves.specs.Fits.Typed.{pattern_typed};
 ghost use Rattle.dslx_check_leaves.specs.Typed as tree;
 ghost use Rattle.dslx_check_leaves.specs.Walked.{JudgedPattern};
 
 use crate::numbers::number_value;
-use dslx_check_control::patterns::{
-    self, PatternTyping, part_type_of, value_pattern, wild_pattern,
-};
 use dslx_check_facts::{Facts, TypeEnv, Walk};
 use dslx_check_leaves::{Names, bool_pattern, has_type, member_pattern, name_pattern};
 use dslx_check_rules::TypeId;
+use dslx_check_rules::control::patterns::{
+    self, PatternTyping, part_type_of, value_pattern, wild_pattern,
+};
 use dslx_tree::{Number, Pattern, Shape};
 use std::alloc::AllocError;
 use xb_span::Span;

@@ -2,13 +2,13 @@
 
 ghost use Rattle.std.specs.Prelude.{IfOk, false};
 ghost use Rattle.dslx_check_facts.specs.Walks.{shown};
-ghost use Rattle.dslx_check_fits.specs.Typed.{pattern_typed};
+ghost use Rattle.dslx_check_leaves.specs.Fits.Typed.{pattern_typed};
 ghost use Rattle.dslx_check_parts.specs.Parts.{JudgedBinding};
 
 use crate::patterns::pattern;
-use dslx_check_control::patterns::PatternTyping;
 use dslx_check_facts::{Bindings, Facts, TypeEnv, Walk};
 use dslx_check_rules::TypeId;
+use dslx_check_rules::control::patterns::PatternTyping;
 use dslx_tree::Pattern;
 use std::alloc::AllocError;
 

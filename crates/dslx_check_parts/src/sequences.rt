@@ -9,10 +9,10 @@ ghost use Rattle.dslx_check_leaves.specs.Walked.{JudgedStatements};
 use crate::exprs::expr;
 use crate::scopes::bind_pattern;
 use crate::types::type_if;
-use dslx_check_control::control::{StatementTyping, bound_type, let_typing};
 use dslx_check_facts::{Facts, TypeEnv, Walk};
 use dslx_check_leaves::{bare_value, use_channel};
-use dslx_check_nodes::Spanned;
+use dslx_check_rules::control::control::{StatementTyping, bound_type, let_typing};
+use dslx_check_rules::nodes::Spanned;
 use dslx_tree::{Expr, Let, Stmt};
 use std::alloc::AllocError;
 

@@ -2,16 +2,16 @@
 
 ghost use Rattle.std.specs.Prelude.{IfOk, map};
 ghost use Rattle.dslx_meaning.specs.Rules.CallRules as the;
-ghost use Rattle.dslx_check_constants.specs.Constants.{expr_typed};
+ghost use Rattle.dslx_check_leaves.specs.Named.Constants.{expr_typed};
 ghost use Rattle.dslx_check_facts.specs.Walks.{shown};
 ghost use Rattle.dslx_check_leaves.specs.Typed as tree;
 ghost use Rattle.dslx_check_leaves.specs.Walked.{JudgedAll, JudgedChannel, JudgesPart, PlacedOne};
 
 use crate::exprs::{alone, expr};
-use dslx_check_control::effects::{ChannelTyping, held_typing, token_typing};
 use dslx_check_facts::{Facts, TypeEnv, Walk};
-use dslx_check_nodes::Spanned;
 use dslx_check_rules::Typing;
+use dslx_check_rules::control::effects::{ChannelTyping, held_typing, token_typing};
+use dslx_check_rules::nodes::Spanned;
 use dslx_check_uses::{channel_named, name_of};
 use dslx_tree::Expr;
 use std::alloc::AllocError;

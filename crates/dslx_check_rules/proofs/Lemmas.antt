@@ -10,3 +10,7 @@ pub mod Sizes
 pub mod Rows
 -- the types of numbers, in later tables too
 pub mod Types
+-- what the nodes of DSLX's trees come to, by what their parts come to
+pub mod Nodes
+-- what control comes to, by what its parts come to
+pub mod Control

@@ -8,3 +8,7 @@ pub mod OnKinds
 pub mod OnLimits
 -- the types of what operators give
 pub mod OnBinary
+-- what the nodes of DSLX's trees come to, by what their parts come to
+pub mod OnNodes
+-- what control comes to, by what its parts come to
+pub mod OnControl

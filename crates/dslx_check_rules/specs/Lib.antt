@@ -10,3 +10,7 @@ pub mod Measures
 pub mod Interned
 -- how the code comes to them
 pub mod Inner
+-- what the nodes of DSLX's trees come to, by what their parts come to
+pub mod Nodes
+-- what control comes to, by what its parts come to
+pub mod Control

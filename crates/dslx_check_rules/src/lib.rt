@@ -1,14 +1,16 @@
-//! The rules of DSLX that need no tree: what the parts of a text come to, by what their own parts come to.
+//! The rules of DSLX that need no tree: what a part comes to, by what its own parts come to.
 //!
 //! Types are numbers of an interning table, so that a type which shares its parts costs what is written of it. Of faults the first one is
 //! kept, and whether a rule is broken.
 #![tactic(auto)]
 
 mod binary;
+pub mod control;
 mod faults;
 mod kinds;
 pub mod laws;
 mod limits;
+pub mod nodes;
 mod operands;
 pub mod rule;
 mod sizes;

@@ -8,3 +8,5 @@ pub mod OnInstances
 pub mod OnParts
 -- the top
 pub mod OnTops
+-- what parts of declarations, which calls and spawns ask for, and the top of a text come to, by walks over their parts
+pub mod OnDeclarations

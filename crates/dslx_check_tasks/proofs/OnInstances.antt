@@ -21,14 +21,14 @@ use Rattle.dslx_check_facts.specs.Walks.{HasTables, OnlyMisses, WalkGrows, WalkS
 use Rattle.dslx_check_facts.proofs.Lemmas.Walks.{grows_trans, misses_grows, nothing_missing, tables_refl, tables_trans}
 use Rattle.dslx_check_declarations.specs.Tops.{named_as}
 use Rattle.dslx_check_declarations.proofs.Lemmas.Told.{told_at}
-use Rattle.dslx_check_instances.specs.Judged.{JudgesInstance}
-use Rattle.dslx_check_judge.specs.Judged.{FindsAs}
-use Rattle.dslx_check_instances.specs.declared.functions.InstanceSeen.{InstanceSeen}
-use Rattle.dslx_check_work.specs.Comes.{FunctionComesTo}
-use Rattle.dslx_check_work.specs.Learnt.{LearnsInstance, PutsThere}
-use Rattle.dslx_check_work.specs.Tables.{KnowsBy}
-use Rattle.dslx_check_work.specs.Text.{IsTextEnv}
-use Rattle.dslx_check_work.proofs.Lemmas.Firsts.{first_named, name_is}
+use Rattle.dslx_check_judge.specs.Instances.Judged.{JudgesInstance}
+use Rattle.dslx_check_judge.specs.Items.Judged.{FindsAs}
+use Rattle.dslx_check_judge.specs.declared.instances.functions.InstanceSeen.{InstanceSeen}
+use Rattle.dslx_check_declarations.specs.Work.Comes.{FunctionComesTo}
+use Rattle.dslx_check_declarations.specs.Work.Learnt.{LearnsInstance, PutsThere}
+use Rattle.dslx_check_declarations.specs.Work.Tables.{KnowsBy}
+use Rattle.dslx_check_declarations.specs.Work.Text.{IsTextEnv}
+use Rattle.dslx_check_declarations.proofs.Lemmas.Work.Firsts.{first_named, name_is}
 use Rattle.dslx_check_tasks.specs.Laws.{InstanceIsKnown, InstanceIsThere, KnownHolds, KnownStays}
 use Rattle.dslx_check_tasks.specs.declared.work.Reaches.{Reaches}
 use Rattle.dslx_check_tasks.specs.declared.work.Work.{Work}

@@ -15,10 +15,10 @@ use Rattle.dslx_check_facts.proofs.Lemmas.Walks.{tables_trans}
 use Rattle.dslx_check_declarations.specs.Tops.{named_as}
 use Rattle.dslx_check_declarations.specs.declared.items.ItemSeen.{ItemSeen}
 use Rattle.dslx_check_declarations.proofs.Lemmas.Told.{told_at}
-use Rattle.dslx_check_judge.specs.Judged.{FindsAs, JudgesItem, MayLearn, is_learnt}
-use Rattle.dslx_check_work.specs.Comes.{ItemComesTo}
-use Rattle.dslx_check_work.specs.Learnt.{LearnsItem, PutsThere}
-use Rattle.dslx_check_work.specs.Tables.{KnowsBy}
+use Rattle.dslx_check_judge.specs.Items.Judged.{FindsAs, JudgesItem, MayLearn, is_learnt}
+use Rattle.dslx_check_declarations.specs.Work.Comes.{ItemComesTo}
+use Rattle.dslx_check_declarations.specs.Work.Learnt.{LearnsItem, PutsThere}
+use Rattle.dslx_check_declarations.specs.Work.Tables.{KnowsBy}
 use Rattle.dslx_check_tasks.specs.Laws.{ItemIsKnown, ItemIsThere, KnownHolds, KnownStays}
 use Rattle.dslx_check_tasks.specs.declared.work.Reaches.{Reaches}
 use Rattle.dslx_check_tasks.specs.declared.work.Work.{Work}

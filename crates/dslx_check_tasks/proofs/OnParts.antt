@@ -8,8 +8,8 @@ use Rattle.dslx_check_facts.specs.declared.walk.Walk.{Walk}
 use Rattle.dslx_check_facts.specs.Known.{text_of}
 use Rattle.dslx_check_facts.specs.Walks.{WalkShown, shown}
 use Rattle.dslx_check_facts.proofs.Lemmas.Walks.{tables_trans}
-use Rattle.dslx_check_declared.specs.Judged.{JudgesForeign}
-use Rattle.dslx_check_work.specs.Learnt.{LearnsPart}
+use Rattle.dslx_check_tasks.specs.Declarations.Judged.{JudgesForeign}
+use Rattle.dslx_check_declarations.specs.Work.Learnt.{LearnsPart}
 use Rattle.dslx_check_tasks.specs.Laws.{KnownHolds, KnownStays, PartIsJudged, PartIsKnown}
 use Rattle.dslx_check_tasks.specs.declared.work.Reaches.{Reaches}
 use Rattle.dslx_check_tasks.specs.declared.work.Work.{Work}

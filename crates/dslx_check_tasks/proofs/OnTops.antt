@@ -11,9 +11,9 @@ use Rattle.dslx_check_facts.specs.Names.{names_of}
 use Rattle.dslx_check_facts.specs.Walks.{WalkShown, instances_at, shown}
 use Rattle.dslx_check_facts.proofs.Lemmas.Walks.{tables_trans}
 use Rattle.dslx_check_declarations.specs.Tops.{IsProcAt, IsProcIf}
-use Rattle.dslx_check_judge.specs.Judged.{FindsAs}
-use Rattle.dslx_check_declared.specs.Judged.{JudgesTop}
-use Rattle.dslx_check_declared.specs.declared.tops.TopSeen.{TopSeen}
+use Rattle.dslx_check_judge.specs.Items.Judged.{FindsAs}
+use Rattle.dslx_check_tasks.specs.Declarations.Judged.{JudgesTop}
+use Rattle.dslx_check_tasks.specs.declared.declarations.tops.TopSeen.{TopSeen}
 use Rattle.dslx_check_tasks.specs.Laws.{KnownHolds}
 use Rattle.dslx_check_tasks.specs.declared.work.Reaches.{Reaches}
 use Rattle.dslx_check_tasks.specs.declared.work.Work.{Work}

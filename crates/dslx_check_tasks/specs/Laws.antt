@@ -12,11 +12,11 @@ use Rattle.dslx_check_facts.specs.Nothing.{IsNothingKnown}
 use Rattle.dslx_check_facts.specs.Walks.{HasTables, WalkGrows, WalkShown}
 use Rattle.dslx_check_declarations.specs.Items.{ItemGrows}
 use Rattle.dslx_check_declarations.specs.declared.items.ItemSeen.{ItemSeen}
-use Rattle.dslx_check_work.specs.Comes.{FunctionComesTo, ItemComesTo, PartComesTo}
-use Rattle.dslx_check_work.specs.Learnt.{IsDoneAs, IsJudgedItem, IsJudgedPart, LearnsInstance, LearnsItem, LearnsPart}
-use Rattle.dslx_check_work.specs.Settled.{DeclarationsSettle, FunctionsSettle, ItemsSettle}
-use Rattle.dslx_check_work.specs.Tables.{KnowsBy}
-use Rattle.dslx_check_work.specs.Text.{IsTextEnv}
+use Rattle.dslx_check_declarations.specs.Work.Comes.{FunctionComesTo, ItemComesTo, PartComesTo}
+use Rattle.dslx_check_declarations.specs.Work.Learnt.{IsDoneAs, IsJudgedItem, IsJudgedPart, LearnsInstance, LearnsItem, LearnsPart}
+use Rattle.dslx_check_declarations.specs.Work.Settled.{DeclarationsSettle, FunctionsSettle, ItemsSettle}
+use Rattle.dslx_check_declarations.specs.Work.Tables.{KnowsBy}
+use Rattle.dslx_check_declarations.specs.Work.Text.{IsTextEnv}
 
 -- ---- what is known
 

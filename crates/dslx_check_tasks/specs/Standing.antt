@@ -14,8 +14,8 @@ use Rattle.dslx_check_facts.specs.declared.instances.InstanceKey.{InstanceKey}
 use Rattle.dslx_check_facts.specs.Known.{at_place, text_of}
 use Rattle.dslx_check_facts.specs.Names.{names_of}
 use Rattle.dslx_check_facts.specs.Walks.{HasTables, WalkShown, instance_of, instances_at, shown}
-use Rattle.dslx_check_work.specs.Settled.{DeclarationsSettle, FunctionsSettle, ItemsSettle, told_item}
-use Rattle.dslx_check_work.specs.Tables.{KnowsBy}
+use Rattle.dslx_check_declarations.specs.Work.Settled.{DeclarationsSettle, FunctionsSettle, ItemsSettle, told_item}
+use Rattle.dslx_check_declarations.specs.Work.Tables.{KnowsBy}
 use Rattle.dslx_check_tasks.specs.declared.work.Reaches.{Reaches}
 use Rattle.dslx_check_tasks.specs.declared.work.Work.{Work}
 

@@ -13,8 +13,8 @@ use Rattle.dslx_check_facts.specs.declared.facts.Sums.{Sums}
 use Rattle.dslx_check_facts.specs.Known.{FactsHold, item_names}
 use Rattle.dslx_check_facts.specs.Walks.{WalkShown, instances_at, shown}
 use Rattle.dslx_check_declarations.specs.declared.items.ItemSeen.{ItemSeen}
-use Rattle.dslx_check_instances.specs.declared.functions.InstanceSeen.{InstanceSeen}
-use Rattle.dslx_check_work.specs.Learnt.{LearnsInstance, LearnsItem, PutsThere}
+use Rattle.dslx_check_judge.specs.declared.instances.functions.InstanceSeen.{InstanceSeen}
+use Rattle.dslx_check_declarations.specs.Work.Learnt.{LearnsInstance, LearnsItem, PutsThere}
 use Rattle.dslx_check_tasks.specs.declared.work.Reaches.{Reaches}
 use Rattle.dslx_check_tasks.specs.declared.work.Work.{Work}
 

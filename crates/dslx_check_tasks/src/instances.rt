@@ -9,12 +9,12 @@ ghost use Rattle.dslx_check_tasks.specs.Told.{IsSumIf, IsSumOf, TellsInstance};
 
 use crate::laws::what_is_known;
 use crate::work::{Work, begin, is_missing, there, walked};
+use dslx_check_declarations::work::learn_instance;
+use dslx_check_declarations::work::places::put_there;
 use dslx_check_facts::{Facts, InstanceKey, Need, Sums, Walk, reached_since};
-use dslx_check_instances::{InstanceSeen, instance_seen};
+use dslx_check_judge::instances::{InstanceSeen, instance_seen};
 use dslx_check_rules::Faults;
 use dslx_check_uses::definition;
-use dslx_check_work::learn_instance;
-use dslx_check_work::places::put_there;
 use dslx_tree::Definition;
 use dslx_values::copy_values;
 use std::alloc::{AllocError, Global};

@@ -5,19 +5,19 @@ ghost use Rattle.dslx_meaning.specs.Items.{name_of_definition};
 ghost use Rattle.dslx_check_facts.specs.Known.{is_judged as is_judged_item, item_names, text_of};
 ghost use Rattle.dslx_check_facts.specs.Names.{definition_at};
 ghost use Rattle.dslx_check_facts.specs.Walks.{OnlyMisses, shown};
-ghost use Rattle.dslx_check_judge.specs.Judged.{is_learnt};
+ghost use Rattle.dslx_check_judge.specs.Items.Judged.{is_learnt};
 ghost use Rattle.dslx_check_tasks.specs.Standing.{WorkGoesOn};
 ghost use Rattle.dslx_check_tasks.specs.Told.{TellsItem};
 
 use crate::laws::what_is_known;
 use crate::work::{Work, begin, is_missing, there, walked};
 use dslx_check_declarations::ItemSeen;
+use dslx_check_declarations::work::learn_item;
+use dslx_check_declarations::work::places::put_there;
 use dslx_check_facts::{Facts, Need, Walk, is_known};
 use dslx_check_items::ident_of;
-use dslx_check_judge::item_seen;
+use dslx_check_judge::items::item_seen;
 use dslx_check_uses::definition;
-use dslx_check_work::learn_item;
-use dslx_check_work::places::put_there;
 use dslx_tree::Definition;
 use std::alloc::AllocError;
 

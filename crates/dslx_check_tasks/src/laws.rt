@@ -14,8 +14,8 @@ pub(crate) fn what_is_known()
     ensures part_there { PartIsJudged }
     ensures part_known { PartIsKnown }
 {
-    dslx_check_work::laws::what_is_known_holds();
-    dslx_check_work::laws::what_is_known_stays();
-    dslx_check_work::laws::what_is_judged_is_there();
-    dslx_check_work::laws::what_is_learnt_is_known();
+    dslx_check_declarations::work::laws::what_is_known_holds();
+    dslx_check_declarations::work::laws::what_is_known_stays();
+    dslx_check_declarations::work::laws::what_is_judged_is_there();
+    dslx_check_declarations::work::laws::what_is_learnt_is_known();
 }

@@ -4,11 +4,11 @@ ghost use Rattle.std.specs.Prelude.{◌≡◌, Some, OnOk, slice_get};
 ghost use Rattle.dslx_check_facts.specs.Walks.{shown};
 ghost use Rattle.dslx_check_tasks.specs.Standing.{WorkGoesOn};
 
+use crate::declarations::part_seen;
 use crate::laws::what_is_known;
 use crate::work::{Work, begin, is_missing};
-use dslx_check_declared::part_seen;
+use dslx_check_declarations::work::learn_part;
 use dslx_check_facts::{ForeignKey, Need};
-use dslx_check_work::learn_part;
 use std::alloc::AllocError;
 
 impl<'a> Work<'a> {

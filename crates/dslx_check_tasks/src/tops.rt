@@ -6,9 +6,9 @@ ghost use Rattle.dslx_check_declarations.specs.Tops.{IsProcAt, IsProcIf};
 ghost use Rattle.dslx_check_rules.specs.Seen.{seen as seen_of};
 ghost use Rattle.dslx_check_tasks.specs.Standing.{FindsTop, WorkGoesOn};
 
+use crate::declarations::top_seen;
 use crate::laws::what_is_known;
 use crate::work::{Reaches, Work, begin, is_missing, walked};
-use dslx_check_declared::top_seen;
 use dslx_check_rules::Faults;
 use dslx_tree::Proc;
 use std::alloc::{AllocError, Global};

@@ -6,7 +6,7 @@ ghost use Rattle.dslx_check_items.specs.Reaching.{AreReached, item_needs};
 ghost use Rattle.dslx_check_facts.specs.Known.{at_place, text_of};
 ghost use Rattle.dslx_check_facts.specs.Names.{HasNoMarks};
 ghost use Rattle.dslx_check_facts.specs.Walks.{shown};
-ghost use Rattle.dslx_check_work.specs.Text.{IsTextEnv};
+ghost use Rattle.dslx_check_declarations.specs.Work.Text.{IsTextEnv};
 ghost use Rattle.dslx_check_tasks.specs.Standing.{IsRight, IsSettledText, own_globals};
 
 use crate::laws::what_is_known;

@@ -1,3 +1,7 @@
+-- parametrics of calls
+mod OnArguments
+-- calls by their parametrics
+mod OnCallees
 -- inference
 mod OnInference
 -- names of fields, and items by their numbers

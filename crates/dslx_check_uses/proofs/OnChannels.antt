@@ -13,9 +13,9 @@ use Rattle.dslx_meaning.specs.Rules.TypeEnvs.{ChannelEnd, GlobalEnv, TypeEnv}
 use Rattle.dslx_check_rules.specs.declared.table.row.TypeId.{TypeId}
 use Rattle.dslx_check_rules.specs.declared.table.row.TypeRow.{TypeRow}
 use Rattle.dslx_check_rules.specs.Interned.{HasRowIf, ItemNames, type_if}
-use Rattle.dslx_check_nodes.specs.Parts.{IsPart}
-use Rattle.dslx_check_control.specs.declared.effects.ChannelTyping.{ChannelTyping}
-use Rattle.dslx_check_control.specs.Effects.{IsEffectChannel}
+use Rattle.dslx_check_rules.specs.Nodes.Parts.{IsPart}
+use Rattle.dslx_check_rules.specs.declared.control.effects.ChannelTyping.{ChannelTyping}
+use Rattle.dslx_check_rules.specs.Control.Effects.{IsEffectChannel}
 use Rattle.dslx_check_uses.specs.Ends.{channel_by_name}
 
 -- ---- ends by their names

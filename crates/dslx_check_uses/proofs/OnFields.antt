@@ -35,11 +35,11 @@ use Rattle.dslx_check_facts.specs.Walks.{WalkShown, OnlyMisses}
 use Rattle.dslx_check_facts.proofs.Lemmas.Items.{cyclic_is, means}
 use Rattle.dslx_check_facts.proofs.Lemmas.Judged.{known_rows_stay}
 use Rattle.dslx_check_facts.proofs.Lemmas.Walks.{grows_refl, misses_grows}
-use Rattle.dslx_check_nodes.specs.declared.parts.Spanned.{Spanned}
-use Rattle.dslx_check_nodes.specs.declared.structs.FieldTyping.{FieldTyping}
-use Rattle.dslx_check_nodes.specs.Nodes.Structs.{IsField, declared_struct}
-use Rattle.dslx_check_nodes.specs.Parts.{ArePlaced, IsPart, IsPlaced, IsPlacedIf, Pairs, Placed}
-use Rattle.dslx_check_nodes.proofs.Lemmas.Lists.{pair_at, pairs_long}
+use Rattle.dslx_check_rules.specs.declared.nodes.parts.Spanned.{Spanned}
+use Rattle.dslx_check_rules.specs.declared.nodes.structs.FieldTyping.{FieldTyping}
+use Rattle.dslx_check_rules.specs.Nodes.Nodes.Structs.{IsField, declared_struct}
+use Rattle.dslx_check_rules.specs.Nodes.Parts.{ArePlaced, IsPart, IsPlaced, IsPlacedIf, Pairs, Placed}
+use Rattle.dslx_check_rules.proofs.Lemmas.Nodes.Lists.{pair_at, pairs_long}
 use Rattle.dslx_check_uses.specs.Inner.Fields.{AreFields, DeclaredFrom, UndeclaredFrom, without_type}
 use Rattle.dslx_check_uses.specs.Uses.{AreFieldValues, NodeFrom, struct_by, struct_half, uneven_at, unknown_at, unwanted, wanted_of}
 

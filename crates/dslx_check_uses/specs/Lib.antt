@@ -1,3 +1,9 @@
+-- calls, by what their parts came to
+pub mod Called
+-- the parametrics of a call, a spawn or the top
+pub mod Arguments
+-- contracts of private parts
+pub mod Inner
 -- nodes that use other declarations, by what their parts came to
 pub mod Uses
 -- what operands infer
@@ -6,5 +12,3 @@ pub mod Inferring
 pub mod Forms
 -- channels by their names
 pub mod Ends
--- contracts of private parts
-pub mod Inner

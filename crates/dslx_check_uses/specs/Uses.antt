@@ -19,9 +19,9 @@ use Rattle.dslx_check_facts.specs.declared.type_env.TypeEnv.{TypeEnv as CodeEnv}
 use Rattle.dslx_check_facts.specs.Judged.{Comes, environment}
 use Rattle.dslx_check_facts.specs.Known.{item_names}
 use Rattle.dslx_check_facts.specs.Walks.{WalkShown, WalkGrows}
-use Rattle.dslx_check_nodes.specs.declared.parts.Spanned.{Spanned}
-use Rattle.dslx_check_nodes.specs.Nodes.Structs.{FieldPlaced, declared_struct, ident_of, undeclared_struct, unknown_idents, written_names}
-use Rattle.dslx_check_nodes.specs.Parts.{ArePlaced, IsPart, IsPlacedIf, Placed}
+use Rattle.dslx_check_rules.specs.declared.nodes.parts.Spanned.{Spanned}
+use Rattle.dslx_check_rules.specs.Nodes.Nodes.Structs.{FieldPlaced, declared_struct, ident_of, undeclared_struct, unknown_idents, written_names}
+use Rattle.dslx_check_rules.specs.Nodes.Parts.{ArePlaced, IsPart, IsPlacedIf, Placed}
 
 -- ---- what functions promise that look things up
 

@@ -7,12 +7,12 @@ ghost use Rattle.dslx_meaning.specs.Rules.TypeEnvs.{GlobalEnv};
 ghost use Rattle.dslx_check_rules.specs.Interned.{HasRowIf, ItemNames};
 ghost use Rattle.dslx_check_rules.specs.declared.table.row.TypeRow.{TypeRow};
 ghost use Rattle.dslx_check_facts.specs.TypeEnvs.{HasBoundRows, end_of, env_of};
-ghost use Rattle.dslx_check_control.specs.Effects.{IsEffectChannel};
+ghost use Rattle.dslx_check_rules.specs.Control.Effects.{IsEffectChannel};
 ghost use Rattle.dslx_check_uses.specs.Ends.{channel_by_name};
 
 use base::texts::Name;
-use dslx_check_control::effects::{self, ChannelTyping};
 use dslx_check_facts::{MemberEnd, TypeEnv};
+use dslx_check_rules::control::effects::{self, ChannelTyping};
 use xb_span::Span;
 
 /// A channel by its name.

@@ -1,10 +1,10 @@
 //! Forms of calls.
 
 ghost use Rattle.std.specs.Prelude.{◌≡◌};
-ghost use Rattle.dslx_names.specs.Called.{kind_of};
+ghost use Rattle.dslx_meaning.specs.Names.Called.{kind_of};
 ghost use Rattle.dslx_check_uses.specs.Forms.{form_by};
 
-use dslx_names::Callee;
+use dslx_meaning::names::Callee;
 use dslx_tree::Direction;
 
 /// What is called: an effect in a direction, with so many arguments, a function of the text, or a builtin.

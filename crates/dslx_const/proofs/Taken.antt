@@ -1,7 +1,7 @@
 -- A step of the machine in the code, and its end.
 use Rattle.std.proofs.Common.{◌≡◌, List, [], ◌∷◌, map, sym, ap, ◌∙◌}
-use Rattle.dslx_names.specs.ConstMachine.Steps.{stepped, behind}
-use Rattle.dslx_names.proofs.Lemmas.ConstMachine.{comes_to, comes_to_stepped}
+use Rattle.dslx_meaning.specs.Names.ConstMachine.Steps.{stepped, behind}
+use Rattle.dslx_meaning.proofs.Lemmas.Names.ConstMachine.{comes_to, comes_to_stepped}
 use Rattle.dslx_const_tasks.specs.Plain.{shown, plain_task, plain_found}
 use Rattle.dslx_const_tasks.specs.declared.machine.Machine.{Machine}
 use Rattle.dslx_const_tasks.specs.declared.task.Task.{Task}

@@ -1,13 +1,13 @@
 ghost use Rattle.std.specs.Prelude.{◌≡◌, IfOk, length};
 ghost use Rattle.dslx_meaning.specs.Items.{meanings_of};
-ghost use Rattle.dslx_names.specs.ConstMachine.Kept.{kept_within};
+ghost use Rattle.dslx_meaning.specs.Names.ConstMachine.Kept.{kept_within};
 ghost use Rattle.dslx_const_tasks.specs.Values.{values_kept};
 ghost use Rattle.dslx_meaning.specs.Meaning.{bound_of, denotation, size_of, value_of, value_of_block, written_type};
 
 use crate::found::{count_found, found_by, machine_over, run, type_found, value_found};
 use dslx_const_tasks::{Kept, Task, TypeTask, ValueTask};
+use dslx_meaning::names::Scope;
 use dslx_meaning::{DslxType, DslxValue};
-use dslx_names::Scope;
 use dslx_tree::{Block, Expr, Module, TypeExpr};
 use std::alloc::{AllocError, Global};
 

@@ -1,18 +1,18 @@
 //! What the machine finds.
 
 ghost use Rattle.std.specs.Prelude.{◌≡◌, [], None, Some, length, IfOk};
-ghost use Rattle.dslx_names.specs.ConstMachine.States.{count_in_finding, type_in, value_in};
-ghost use Rattle.dslx_names.specs.ConstMachine.Steps.{begins};
-ghost use Rattle.dslx_names.specs.ConstMachine.Tasks.{ValueFound};
-ghost use Rattle.dslx_names.proofs.Lemmas.ConstMachine.{comes_to};
+ghost use Rattle.dslx_meaning.specs.Names.ConstMachine.States.{count_in_finding, type_in, value_in};
+ghost use Rattle.dslx_meaning.specs.Names.ConstMachine.Steps.{begins};
+ghost use Rattle.dslx_meaning.specs.Names.ConstMachine.Tasks.{ValueFound};
+ghost use Rattle.dslx_meaning.proofs.Lemmas.Names.ConstMachine.{comes_to};
 ghost use Rattle.dslx_const_tasks.specs.Plain.{plain_found, plain_task, shown};
 ghost use Rattle.dslx_const_tasks.specs.Values.{values_kept};
 
 use crate::step::step;
 use base::stacks::Stack;
 use dslx_const_tasks::{Found, Kept, Machine, Task};
+use dslx_meaning::names::Scope;
 use dslx_meaning::{DslxType, DslxValue};
-use dslx_names::Scope;
 use dslx_tree::Module;
 use std::alloc::{AllocError, Global};
 

@@ -2,10 +2,10 @@
 
 ghost use Rattle.std.specs.Prelude.{◌≡◌, ◌∷◌, [], OnOk};
 ghost use Rattle.dslx_meaning.specs.Activation.{node_of};
-ghost use Rattle.dslx_names.specs.ConstMachine.Items.{uses_struct};
-ghost use Rattle.dslx_names.specs.ConstMachine.States.{doing};
-ghost use Rattle.dslx_names.specs.ConstMachine.Tasks.{FindsFields};
-ghost use Rattle.dslx_names.specs.ConstMachine.Steps.{array_begins, node_begins};
+ghost use Rattle.dslx_meaning.specs.Names.ConstMachine.Items.{uses_struct};
+ghost use Rattle.dslx_meaning.specs.Names.ConstMachine.States.{doing};
+ghost use Rattle.dslx_meaning.specs.Names.ConstMachine.Tasks.{FindsFields};
+ghost use Rattle.dslx_meaning.specs.Names.ConstMachine.Steps.{array_begins, node_begins};
 ghost use Rattle.dslx_const_tasks.specs.Plain.{shown};
 
 use crate::lists::{gather, gather_parametric_args};

@@ -1,5 +1,5 @@
 ghost use Rattle.std.specs.Prelude.{◌≡◌, OnOk};
-ghost use Rattle.dslx_names.specs.ConstMachine.Steps.{stepped};
+ghost use Rattle.dslx_meaning.specs.Names.ConstMachine.Steps.{stepped};
 ghost use Rattle.dslx_const_tasks.specs.Plain.{shown, plain_task};
 
 use crate::calls::step_call;

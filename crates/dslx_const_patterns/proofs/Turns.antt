@@ -6,9 +6,9 @@ use Rattle.dslx_meaning.specs.Meaning.{turn_count}
 use Rattle.dslx_meaning.specs.Operators.{of_one_type}
 use Rattle.dslx_meaning.specs.declared.value.DslxValue.{DslxValue}
 use Rattle.dslx_meaning.specs.declared.value.SignedWord.{SignedWord}
-use Rattle.dslx_names.specs.ConstMachine.States.{doing, finds_value}
-use Rattle.dslx_names.specs.ConstMachine.Tasks.{ConstState, Turns}
-use Rattle.dslx_names.specs.ConstMachine.Patterns.{last_found}
+use Rattle.dslx_meaning.specs.Names.ConstMachine.States.{doing, finds_value}
+use Rattle.dslx_meaning.specs.Names.ConstMachine.Tasks.{ConstState, Turns}
+use Rattle.dslx_meaning.specs.Names.ConstMachine.Patterns.{last_found}
 use Rattle.dslx_const_patterns.specs.Inner.Turns.{turns_begin}
 
 counted : (alike : Bool) (n : ℕ) (f : For) (start : DslxValue) (a : SignedWord) (run : ConstState)

@@ -4,10 +4,10 @@ ghost use Rattle.std.specs.Prelude.{◌≡◌, ◌∷◌, OnOk, List, map};
 ghost use Rattle.xb_bits.specs.Word.{word};
 ghost use Rattle.xb_bits.specs.Operations.{add as add_words};
 ghost use Rattle.dslx_tree.specs.declared.pattern.Pattern.{Pattern as PatternTree};
-ghost use Rattle.dslx_names.specs.ConstMachine.Layers.{shape_of};
-ghost use Rattle.dslx_names.specs.ConstMachine.Patterns.{tries, last_or_next, selects, binds_nothing, all_bind_nothing, first_found, last_found, turns_on};
-ghost use Rattle.dslx_names.specs.ConstMachine.Steps.{stepped};
-ghost use Rattle.dslx_names.specs.ConstMachine.Tasks.{Selects, StartsLoop, FindsFirst, FindsLast, Turns};
+ghost use Rattle.dslx_meaning.specs.Names.ConstMachine.Layers.{shape_of};
+ghost use Rattle.dslx_meaning.specs.Names.ConstMachine.Patterns.{tries, last_or_next, selects, binds_nothing, all_bind_nothing, first_found, last_found, turns_on};
+ghost use Rattle.dslx_meaning.specs.Names.ConstMachine.Steps.{stepped};
+ghost use Rattle.dslx_meaning.specs.Names.ConstMachine.Tasks.{Selects, StartsLoop, FindsFirst, FindsLast, Turns};
 ghost use Rattle.dslx_const_patterns.specs.Inner.Turns.{turns_begin};
 ghost use Rattle.dslx_const_tasks.specs.Plain.{shown, plain_choice_task};
 

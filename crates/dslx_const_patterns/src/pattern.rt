@@ -1,18 +1,18 @@
 //! Patterns, and what comes behind them.
 
 ghost use Rattle.std.specs.Prelude.{◌≡◌, ◌∷◌, [], OnOk, map};
-ghost use Rattle.dslx_names.specs.ConstMachine.Patterns.{fails, uses_number, fits_if, fits_name, fits_parts, fits_one, goes_on, fits_first, fits_all};
-ghost use Rattle.dslx_names.specs.ConstMachine.Items.{uses_member, is_constant_within};
-ghost use Rattle.dslx_names.specs.ConstMachine.States.{doing};
-ghost use Rattle.dslx_names.specs.ConstMachine.Steps.{stepped};
-ghost use Rattle.dslx_names.specs.ConstMachine.Tasks.{Compares, Forgets};
+ghost use Rattle.dslx_meaning.specs.Names.ConstMachine.Patterns.{fails, uses_number, fits_if, fits_name, fits_parts, fits_one, goes_on, fits_first, fits_all};
+ghost use Rattle.dslx_meaning.specs.Names.ConstMachine.Items.{uses_member, is_constant_within};
+ghost use Rattle.dslx_meaning.specs.Names.ConstMachine.States.{doing};
+ghost use Rattle.dslx_meaning.specs.Names.ConstMachine.Steps.{stepped};
+ghost use Rattle.dslx_meaning.specs.Names.ConstMachine.Tasks.{Compares, Forgets};
 ghost use Rattle.dslx_const_tasks.specs.Plain.{shown, plain_value_task, plain_waiting, plain_sequel};
 
 use base::texts::Name;
 use dslx_const_tasks::items::{is_constant, use_constant, use_member};
 use dslx_const_tasks::{ChoiceTask, Fitting, Machine, Sequel, ValueTask, Waiting, in_order};
+use dslx_meaning::names::{Binding, Scope};
 use dslx_meaning::{DslxValue, UntypedLiteral};
-use dslx_names::{Binding, Scope};
 use dslx_tree::{Number, Pattern, Shape};
 use dslx_values::{bool_value, into_elements, same_value};
 use std::alloc::{AllocError, Global};

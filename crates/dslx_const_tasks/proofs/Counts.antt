@@ -1,7 +1,7 @@
 -- One less, where there is one.
 use Rattle.std.proofs.Common.{◌≡◌, ◌-◌, ℕ, zero, suc, Some, None, refl, ap, arith}
 use Rattle.std.specs.Prelude.{◌≢◌}
-use Rattle.dslx_names.specs.ConstMachine.States.{one_less}
+use Rattle.dslx_meaning.specs.Names.ConstMachine.States.{one_less}
 
 pub less_one : (n : ℕ) → n ≢ 0 → one_less n ≡ Some (n - 1)
 less_one zero some = absurd (some refl)

@@ -30,7 +30,7 @@ use Rattle.dslx_const_tasks.specs.declared.task.TypeTask.{TypeTask}
 use Rattle.dslx_const_tasks.specs.declared.task.TypeTask.TheVariants as ty
 use Rattle.dslx_const_tasks.specs.declared.task.CallTask.{CallTask}
 use Rattle.dslx_const_tasks.specs.declared.task.CallTask.TheVariants as call
-use Rattle.dslx_names.specs.ConstMachine.Tasks as m
+use Rattle.dslx_meaning.specs.Names.ConstMachine.Tasks as m
 
 abbrev pub plain_found : Found → m.Finding
 plain_found (found.Value v) = m.ValueFound v

@@ -6,7 +6,7 @@ use Rattle.dslx_meaning.specs.Items.{as_enum, item_named}
 use Rattle.dslx_meaning.specs.Lists.{and_then}
 use Rattle.dslx_meaning.specs.declared.value.DslxValue.{DslxValue}
 use Rattle.dslx_check_items.specs.Items.{item_number}
-use Rattle.dslx_names.specs.ConstMachine.Kept.{KeptValues}
+use Rattle.dslx_meaning.specs.Names.ConstMachine.Kept.{KeptValues}
 use Rattle.dslx_const_tasks.specs.declared.kept.Kept.{Kept}
 
 -- what stands at a place, if there is such a place and something stands there

@@ -1,7 +1,7 @@
 //! Counts, one down.
 
 ghost use Rattle.std.specs.Prelude.{◌≡◌};
-ghost use Rattle.dslx_names.specs.ConstMachine.States.{one_less as less};
+ghost use Rattle.dslx_meaning.specs.Names.ConstMachine.States.{one_less as less};
 
 /// One less, if there is one.
 #[tactic(auto, using(crate::proofs::Counts::less_one, crate::proofs::Counts::less_none))]

@@ -1,15 +1,15 @@
 ghost use Rattle.std.specs.Prelude.{◌≡◌, ◌∷◌, [], OnOk};
-ghost use Rattle.dslx_names.specs.ConstMachine.Kept.{is_hidden};
-ghost use Rattle.dslx_names.specs.ConstMachine.States.{value_in, type_in, count_in_finding, finds_value, finds_type, finds_count, without_finding, doing};
-ghost use Rattle.dslx_names.specs.ConstMachine.Tasks.{ValueDen, FindsType, CountsBound, CountsSize};
+ghost use Rattle.dslx_meaning.specs.Names.ConstMachine.Kept.{is_hidden};
+ghost use Rattle.dslx_meaning.specs.Names.ConstMachine.States.{value_in, type_in, count_in_finding, finds_value, finds_type, finds_count, without_finding, doing};
+ghost use Rattle.dslx_meaning.specs.Names.ConstMachine.Tasks.{ValueDen, FindsType, CountsBound, CountsSize};
 ghost use Rattle.dslx_const_tasks.specs.Plain.{shown, plain_task, plain_value_task, plain_list_task, plain_choice_task, plain_type_task, plain_call_task};
 
 use crate::kept::Kept;
 use crate::task::{CallTask, ChoiceTask, Found, ListTask, Task, TypeTask, ValueTask};
 use base::stacks::Stack;
 use base::texts::Name;
+use dslx_meaning::names::Scope;
 use dslx_meaning::{DslxType, DslxValue};
-use dslx_names::Scope;
 use dslx_tree::{Expr, Module, TypeExpr};
 use std::alloc::{AllocError, Global};
 

@@ -3,8 +3,8 @@ ghost use Rattle.dslx_const_tasks.specs.Plain.{plain_task, plain_value_task, pla
 
 use base::stacks::Stack;
 use base::texts::Name;
+use dslx_meaning::names::Scope;
 use dslx_meaning::{BitKind, DslxType, DslxValue, SignedWord, UntypedLiteral};
-use dslx_names::Scope;
 use dslx_tree::{
     Arg, Arm, Binary, Block, Expr, Field, FieldValue, For, Function, Parametric, Pattern, Prefix,
     Stmt, Struct, TypeExpr,

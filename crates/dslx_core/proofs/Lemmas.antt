@@ -5,3 +5,5 @@ pub mod Lowering
 pub mod Networks
 pub mod Machines
 pub mod Typing
+-- types of checked expressions: what has one has a value of it
+pub mod Types

@@ -12,3 +12,5 @@ pub mod Lemmas
 pub mod OnMachines
 -- type soundness: what breaks no rule has a type and a value of it, up to whole texts
 pub mod OnTyping
+-- types of checked expressions: what has one has a value of it
+pub mod OnTypes

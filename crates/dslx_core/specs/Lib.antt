@@ -14,3 +14,5 @@ pub mod Networks
 pub mod Machines
 -- type soundness: what breaks no rule has a type and a value of it, up to whole texts
 pub mod Typing
+-- types of checked expressions: what has one has a value of it
+pub mod Types

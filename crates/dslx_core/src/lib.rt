@@ -13,6 +13,7 @@ pub mod machines;
 pub mod networks;
 pub mod preserved;
 mod step;
+pub mod types;
 pub mod typing;
 
 pub use design::{Child, Design, Function, Instance, MadeChannel, Outer};

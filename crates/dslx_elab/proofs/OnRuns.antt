@@ -11,8 +11,8 @@ use Rattle.xb_span.specs.declared.limit.What.TheVariants as what
 use Rattle.net_core.specs.declared.net.Net.{Net}
 use Rattle.dslx_core.specs.Designs.{core_family}
 use Rattle.dslx_core.specs.declared.design.Design.{Design}
-use Rattle.dslx_network.specs.Bodies.{own_instance}
-use Rattle.dslx_network.specs.Limits.{network_limit}
+use Rattle.dslx_interp.specs.Network.Bodies.{own_instance}
+use Rattle.dslx_interp.specs.Network.Limits.{network_limit}
 
 -- few procs and channels pass no limit
 pub within_limits : (net : Net) → length net.procs ≤ 256 → length net.chans ≤ 1024 → network_limit net ≡ None

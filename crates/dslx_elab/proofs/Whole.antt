@@ -12,8 +12,8 @@ use Rattle.dslx_meaning.specs.declared.value.DslxValue.{DslxValue}
 use Rattle.dslx_core.specs.Typing.Typed.Kinds.{is_of}
 use Rattle.dslx_core.proofs.Lemmas.Typing.Typed.{none_some, same_some}
 use Rattle.dslx_core.specs.declared.design.Instance.{Instance}
-use Rattle.dslx_names.specs.Bound.{given}
-use Rattle.dslx_names.specs.declared.scope.Binding.{Binding}
+use Rattle.dslx_meaning.specs.Names.Bound.{given}
+use Rattle.dslx_meaning.specs.declared.names.scope.Binding.{Binding}
 use Rattle.dslx_core.specs.Lowering.CoreScopes.{BodyEnv, with_local}
 use Rattle.dslx_core.specs.Lowering.EqualTypes.{equal_type}
 use Rattle.dslx_core.specs.Lowering.Functions.{CoreInstance, callee_in, parametric_args_are_well_typed, outer_scope}

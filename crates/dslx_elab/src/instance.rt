@@ -19,7 +19,7 @@ use dslx_core_exprs::types::plain_value;
 use dslx_instance::table::InstanceTable;
 use dslx_meaning::DslxValue;
 use dslx_next::steps::next_there;
-use dslx_scope_patterns::parametric_args::bindings_of;
+use dslx_scope_names::parametric_args::bindings_of;
 use dslx_tree::{Module, Proc};
 use std::alloc::{AllocError, Global};
 use xb_value::Boxed;

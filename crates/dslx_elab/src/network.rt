@@ -4,12 +4,12 @@ ghost use Rattle.std.specs.Prelude.{◌≡◌, ℕ, List, Option, map, IfOk, IfE
 ghost use Rattle.xb_span.specs.declared.read_error.ReadError.TheVariants.{OutOfMemory};
 ghost use Rattle.dslx_tree.specs.declared.item.Module.{Module};
 ghost use Rattle.dslx_core.specs.Networks.Assembly.{IsDesignFrom};
-ghost use Rattle.dslx_network.specs.DslxBodies.{behavior_of};
+ghost use Rattle.dslx_interp.specs.Network.DslxBodies.{behavior_of};
 ghost use Rattle.dslx_total.specs.Instances.Checked.{AreOfChecked};
 ghost use Rattle.dslx_elab.specs.Runs.{IsAcceptedText, IsOfAccepted, RunsText};
 
 use dslx_core::Design;
-use dslx_network::{DslxBody, Elaborated, bodies_of, elaborate};
+use dslx_interp::network::{DslxBody, Elaborated, bodies_of, elaborate};
 use net_core::Net;
 use std::alloc::Global;
 use xb_span::ReadError;

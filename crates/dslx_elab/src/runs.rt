@@ -5,9 +5,9 @@ ghost use Rattle.dslx_tree.specs.declared.item.Module.{Module};
 ghost use Rattle.dslx_core.specs.Designs.{core_behaviors, core_family, core_network};
 ghost use Rattle.dslx_core.specs.Networks.Assembly.{IsDesignFrom};
 ghost use Rattle.dslx_core.specs.declared.design.Design.{Design};
-ghost use Rattle.dslx_network.specs.Bodies.{ReceivesWords};
-ghost use Rattle.dslx_network.specs.Limits.{network_limit};
-ghost use Rattle.dslx_network.specs.Linked.{IsLinked};
+ghost use Rattle.dslx_interp.specs.Network.Bodies.{ReceivesWords};
+ghost use Rattle.dslx_interp.specs.Network.Limits.{network_limit};
+ghost use Rattle.dslx_interp.specs.Network.Linked.{IsLinked};
 ghost use Rattle.dslx_total.specs.Instances.Checked.{AreOfChecked};
 ghost use Rattle.dslx_elab.specs.Runs.{IsAcceptedText, RunsText};
 
@@ -20,8 +20,8 @@ pub fn accepted_texts_run()
     ensures limits { (m : Module) (top : Option (List ℕ)) (design : Design) → IsAcceptedText m top → (made : IsDesignFrom m top design) → AreOfChecked m top made.named_functions → network_limit (core_network design) ≡ None }
     ensures few { (m : Module) (top : Option (List ℕ)) (design : Design) → IsAcceptedText m top → (made : IsDesignFrom m top design) → AreOfChecked m top made.named_functions → length (core_family design).procs ≤ 256 }
 {
-    dslx_network::linked::made_designs_are_linked();
-    dslx_network::linked::made_designs_receive_words();
+    dslx_interp::network::linked::made_designs_are_linked();
+    dslx_interp::network::linked::made_designs_receive_words();
     dslx_total::counts::networks_keep_the_limits();
     dslx_total::families::accepted_texts_are_well_typed();
     dslx_total::nets::behaviors_are_of_their_networks();

@@ -12,10 +12,10 @@ ghost use Rattle.dslx_instance.specs.Tasks.Shown.{body_shown, match_shown, insta
 use crate::held::{Mark, go_back, mark_of, take_boxed};
 use dslx_core::Shape;
 use dslx_core::lowering::{LoweredArm, LoweredExpr};
-use dslx_core_calls::calls::{arm_of, lower_select};
+use dslx_core_exprs::calls::{arm_of, lower_select};
 use dslx_instance::tasks::{ArmsTask, LowerTask, MatchWork, OpenBody};
-use dslx_instance_steps::scopes::scope_env_in;
-use dslx_scope_patterns::patterns::{BodyScope, alternatives_there, bind_there, binds_nothing_new};
+use dslx_scope_names::patterns::{BodyScope, alternatives_there, bind_there, binds_nothing_new};
+use dslx_scope_names::scopes::scope_env_in;
 use dslx_tree::{Arm, Module, Pattern};
 use std::alloc::{AllocError, Global};
 use xb_value::{Boxed, Seq};

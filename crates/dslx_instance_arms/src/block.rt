@@ -12,7 +12,7 @@ use crate::held::{go_back, mark_of, take_boxed};
 use dslx_core::Shape;
 use dslx_core::lowering::LoweredExpr;
 use dslx_instance::tasks::{BlockTask, LowerTask, OpenBody};
-use dslx_scope_patterns::patterns::{BodyScope, bind_there};
+use dslx_scope_names::patterns::{BodyScope, bind_there};
 use dslx_tree::{Expr, Module, Pattern, Stmt};
 use std::alloc::{AllocError, Global};
 use xb_value::Boxed;

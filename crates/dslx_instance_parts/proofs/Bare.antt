@@ -12,7 +12,7 @@ use Rattle.dslx_meaning.specs.Activation.{NodeLayer, node_of}
 use Rattle.dslx_meaning.specs.Meaning as m
 use Rattle.dslx_meaning.specs.Meaning.{ValueDen, ExprDen, PatternDen, TypeDen, StmtDen, ArmDen, FieldDen, denotation, written_type}
 use Rattle.dslx_meaning.specs.declared.value.UntypedLiteral.{UntypedLiteral}
-use Rattle.dslx_names.specs.ConstMachine.Layers.{untyped_of, bare_node, without_type, written}
+use Rattle.dslx_meaning.specs.Names.ConstMachine.Layers.{untyped_of, bare_node, without_type, written}
 
 abbrev meanings : Carriers
 meanings = record {

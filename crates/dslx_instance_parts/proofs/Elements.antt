@@ -4,7 +4,7 @@ use Rattle.dslx_tree.specs.declared.expr.Expr.{Expr}
 use Rattle.dslx_meaning.specs.Meaning.{denotation}
 use Rattle.dslx_meaning.specs.declared.ty.DslxType.{DslxType}
 use Rattle.dslx_meaning.specs.declared.value.UntypedLiteral.{UntypedLiteral}
-use Rattle.dslx_names.specs.ConstMachine.Layers.{untyped_of}
+use Rattle.dslx_meaning.specs.Names.ConstMachine.Layers.{untyped_of}
 use Rattle.dslx_core.specs.Machines.Machine.Parts.{part_begins, element_begins}
 use Rattle.dslx_core.specs.Machines.Machine.Tasks.{OpenBody, PartsMaker, MakesTuple, MakesArray, Fills, CallsWith}
 use Rattle.dslx_instance_parts.specs.Inner.Elements.{begins_by, element_by, number_by}

@@ -7,7 +7,7 @@ use Rattle.dslx_tree.specs.declared.expr.Expr.{Expr}
 use Rattle.dslx_tree.specs.declared.expr.FieldValue.{FieldValue, out-FieldValue}
 use Rattle.dslx_meaning.specs.Lists.{is_in}
 use Rattle.dslx_meaning.specs.declared.ty.DslxType.{DslxType}
-use Rattle.dslx_names.specs.ConstMachine.Layers.{field_among}
+use Rattle.dslx_meaning.specs.Names.ConstMachine.Layers.{field_among}
 use Rattle.dslx_core.specs.Machines.Machine.Parts.{fields_begin, names_of_fields}
 use Rattle.dslx_core.specs.Machines.Machine.Tasks.{InstanceEnv, OpenBody}
 use Rattle.dslx_instance_parts.specs.Inner.Fields.{fields_by, others_needed}

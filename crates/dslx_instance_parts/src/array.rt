@@ -12,8 +12,8 @@ ghost use Rattle.dslx_instance.specs.Tasks.Shown.{body_shown, instance_env_of};
 
 use crate::order::gather;
 use dslx_instance::tasks::{OpenBody, PartsMaker};
-use dslx_instance_steps::scopes::type_in_body;
 use dslx_meaning::DslxType;
+use dslx_scope_names::scopes::type_in_body;
 use dslx_tree::{Expr, Module, TypeExpr};
 use std::alloc::{AllocError, Global};
 use xb_value::Boxed;

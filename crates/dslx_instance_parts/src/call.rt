@@ -12,13 +12,13 @@ ghost use Rattle.dslx_instance.specs.Tasks.Shown.{body_shown, instance_env_of};
 
 use base::texts::Name;
 use dslx_core::lowering::{Instantiated, LoweredExpr};
-use dslx_core_calls::aggregates::types_of;
-use dslx_core_calls::calls::lower_builtin;
+use dslx_core_exprs::aggregates::types_of;
+use dslx_core_exprs::calls::lower_builtin;
 use dslx_instance::tasks::{CallTask, OpenBody};
-use dslx_instance_steps::scopes::constants_in_body;
 use dslx_meaning::DslxValue;
-use dslx_names::{Callee, callee_of, find_function};
-use dslx_scope_patterns::parametric_args::parametric_args_of;
+use dslx_meaning::names::{Callee, callee_of, find_function};
+use dslx_scope_names::parametric_args::parametric_args_of;
+use dslx_scope_names::scopes::constants_in_body;
 use dslx_tree::{Arg, Function, Module};
 use dslx_values::copy_name;
 use std::alloc::{AllocError, Global};

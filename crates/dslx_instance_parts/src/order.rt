@@ -13,11 +13,11 @@ ghost use Rattle.dslx_instance_parts.specs.Inner.Elements.{begins_by, element_by
 use crate::call::begin_call;
 use dslx_const_tasks::items::{number_of, untyped_of};
 use dslx_core::lowering::LoweredExpr;
-use dslx_core_calls::aggregates::{lower_array_elements, lower_filled, lower_tuple};
+use dslx_core_exprs::aggregates::{lower_array_elements, lower_filled, lower_tuple};
+use dslx_instance::steps::fits_part;
 use dslx_instance::tasks::{LowerTask, OpenBody, PartsMaker, PartsTask};
-use dslx_instance_steps::fits_part;
-use dslx_instance_steps::scopes::literal_if;
 use dslx_meaning::{DslxType, UntypedLiteral};
+use dslx_scope_names::scopes::literal_if;
 use dslx_tree::{Expr, Module};
 use std::alloc::{AllocError, Global};
 

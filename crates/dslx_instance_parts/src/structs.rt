@@ -15,7 +15,7 @@ use base::stacks::Stack;
 use base::texts::Name;
 use dslx_instance::tasks::{LowerTask, OpenBody, PartsTask, StructWork};
 use dslx_meaning::DslxType;
-use dslx_names::find_field;
+use dslx_meaning::names::find_field;
 use dslx_tree::{Expr, FieldValue, Module};
 use dslx_values::{copy_names, copy_types};
 use std::alloc::{AllocError, Global};

@@ -1,2 +1,4 @@
 -- the machine that evaluates
 pub mod Eval
+-- elaboration
+pub mod Network

@@ -22,3 +22,5 @@ pub mod Types
 pub mod Values
 -- rules
 pub mod Rules
+-- what names stand for in a text: what is bound in a scope, its items, and what is called
+pub mod Names

@@ -1,8 +1,9 @@
-//! What a DSLX text means: the values of its expressions, what its procs do, and its network.
+//! What a DSLX text means: its values, its procs, its network, and what its names stand for.
 //!
 //! These are definitions, in `specs/`. The code has the types and the values that they speak of.
 #![tactic(auto)]
 
+pub mod names;
 pub mod rules;
 mod ty;
 mod value;

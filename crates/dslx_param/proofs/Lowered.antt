@@ -22,7 +22,7 @@ use Rattle.dslx_param.specs.Run.Runs.{MachineRuns, Ends, Lacks}
 use Rattle.dslx_instance.specs.Tasks.Shown.{machine_shown, instance_env_of}
 use Rattle.dslx_instance.specs.Tasks.Works.{work_scope}
 use Rattle.dslx_instance.specs.declared.tasks.machine.InstanceMachine as code
-use Rattle.dslx_names.specs.Bound.{given}
+use Rattle.dslx_meaning.specs.Names.Bound.{given}
 use Rattle.dslx_param.specs.Works.{LowerResult, IsLowered, IsNone, taken_from}
 use Rattle.dslx_param.proofs.Adding.{MachineOnce}
 use Rattle.dslx_param.proofs.OnNeeded.Called.{adds_by}

@@ -1,8 +1,8 @@
 -- Tokens and texts give one tree or one refusal.
 use Rattle.std.proofs.Common.{◌≡◌, ◌∙◌, ℕ, List, ap, sym, subst}
 use Rattle.std.specs.Prelude.{Result, Ok, Err, Some, slice_get}
-use Rattle.grammar.specs.Derivation.{IsSentence}
-use Rattle.grammar.specs.Tree.{productions_of}
+use Rattle.base.specs.Grammar.Derivation.{IsSentence}
+use Rattle.base.specs.Grammar.Tree.{productions_of}
 use Rattle.base.proofs.Lemmas.Lists.Faults.{IsFirstFault-unique}
 use Rattle.dslx_token.specs.Rules.Dslx.{dslx}
 use Rattle.dslx_token.specs.Lexeme.{Lexeme}

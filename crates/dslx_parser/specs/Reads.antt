@@ -1,6 +1,6 @@
 -- Which tokens read as which tree, and how the others are refused.
 use Rattle.std.specs.Prelude.{◌≡◌, ◌⊎◌, ℕ, List, map, take, None, Some, Result, Ok, Err, slice_get}
-use Rattle.grammar.specs.Derivation.{IsBeginning, IsDerivation, IsSentence}
+use Rattle.base.specs.Grammar.Derivation.{IsBeginning, IsDerivation, IsSentence}
 use Rattle.base.specs.Lists.Fault.{IsFirstFault}
 use Rattle.xb_span.specs.Nesting.Nesting.{first_past}
 use Rattle.dslx_token.specs.Rules.Dslx.{dslx}

@@ -1,7 +1,7 @@
 //! What the steps of a text's derivation build is the tree that the rules of the grammar make.
 ghost use Rattle.std.specs.Prelude.{◌≡◌, ℕ, List, map};
-ghost use Rattle.grammar.specs.Steps.{steps_of};
-ghost use Rattle.grammar.specs.Tree.{Forest, IsParseTree, productions_of};
+ghost use Rattle.base.specs.Grammar.Steps.{steps_of};
+ghost use Rattle.base.specs.Grammar.Tree.{Forest, IsParseTree, productions_of};
 ghost use Rattle.dslx_parser.specs.Builder.Building.{built, module_of};
 ghost use Rattle.dslx_token.specs.Rules.Dslx.{dslx};
 ghost use Rattle.dslx_actions.specs.Empty.{empty};

@@ -16,5 +16,5 @@ pub fn trees_are_shallow()
     ensures number { most_high ≡ 8906 }
 {
     crate::syntax::all_rules_make();
-    grammar::one_tree();
+    base::grammar::one_tree();
 }

@@ -13,6 +13,6 @@ pub fn one_reading()
 {
     dslx_token::rules::one_derivation();
     crate::built::built_is_made();
-    grammar::one_tree();
+    base::grammar::one_tree();
     dslx_token::one_reading();
 }

@@ -1,8 +1,8 @@
 //! Reading the tokens of a text.
 
 ghost use Rattle.std.specs.Prelude.{◌≡◌, ◌<◌, None, Some, length, slice_get, take, IfErr, IfOk, IfSome, MatchResult};
-ghost use Rattle.grammar.specs.Answer.{EndsWith};
-ghost use Rattle.grammar.specs.Derivation.{IsBeginning, IsDerivation, IsSentence};
+ghost use Rattle.base.specs.Grammar.Answer.{EndsWith};
+ghost use Rattle.base.specs.Grammar.Derivation.{IsBeginning, IsDerivation, IsSentence};
 ghost use Rattle.base.specs.Lists.Fault.{IsFirstFault};
 ghost use Rattle.xb_span.specs.Nesting.Nesting.{first_past};
 ghost use Rattle.dslx_token.specs.Rules.Dslx.{dslx};
@@ -12,11 +12,11 @@ ghost use Rattle.dslx_parser.specs.Reads.{IsRefusal, NestsWithin, Reads, kinds_o
 ghost use Rattle.xb_span.specs.declared.read_error.ReadError.TheVariants.{OutOfMemory};
 
 use crate::builder::build;
+use base::grammar::ParseError;
 use dslx_token::Token;
 use dslx_token::bracket_classes::bracket_classes;
 use dslx_token::rules::kind::END;
 use dslx_tree::Module;
-use grammar::ParseError;
 use std::alloc::{AllocError, Global};
 use xb_span::nesting::first_over;
 use xb_span::{Limit, ReadError, What};
@@ -41,7 +41,7 @@ pub fn parse(alloc: Global, tokens: &[Token]) -> Result<Module, ReadError>
 {
     dslx_token::rules::one_derivation();
     crate::built::built_is_made();
-    grammar::one_tree();
+    base::grammar::one_tree();
     read_tokens(alloc, tokens)
 }
 
@@ -130,7 +130,7 @@ fn tree(
     ensures { IfOk result (λ m. Reads tokens.now m) }
 {
     crate::built::built_is_made();
-    grammar::one_tree();
+    base::grammar::one_tree();
     let steps = dslx_token::rules::steps(alloc, productions)?;
     build(alloc, &steps, tokens)
 }

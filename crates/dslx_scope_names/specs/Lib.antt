@@ -2,3 +2,7 @@
 pub mod Names
 -- constants
 pub mod Values
+-- parametric values
+pub mod Numbers
+-- patterns
+pub mod Patterns

@@ -1,7 +1,7 @@
 -- The last token of a text is the mark at its end.
 use Rattle.std.proofs.Common.{◌≡◌, ◌+◌, ◌-◌, ℕ, suc, List, [], ◌∷◌, ◌++◌, length, map, Result, Ok, Err, Some, refl, ap, sym, ◌∙◌, subst, arith}
 use Rattle.std.specs.Prelude.{IfOk, slice_get}
-use Rattle.grammar.specs.Answer.{EndsWith}
+use Rattle.base.specs.Grammar.Answer.{EndsWith}
 use Rattle.dslx_token.specs.declared.rules.generated.kind.TheConstants.{END}
 use Rattle.xb_span.specs.declared.read_error.ReadError.{ReadError}
 use Rattle.dslx_token.specs.Kinds.{kind_behind, name_kind, settled}

@@ -1,7 +1,7 @@
 //! The tokens of a text with their kinds.
 
 ghost use Rattle.std.specs.Prelude.{◌≡◌, ◌<◌, ◌^◌, ◌⊎◌, ℕ, List, length, map, IfErr, IfOk, IsErrAnd, MatchResult, OnOk};
-ghost use Rattle.grammar.specs.Answer.{EndsWith};
+ghost use Rattle.base.specs.Grammar.Answer.{EndsWith};
 ghost use Rattle.dslx_token.specs.Inner.Names.{kind_by};
 ghost use Rattle.dslx_token.specs.Kinds.{name_kind, settled};
 ghost use Rattle.dslx_token.specs.Lexeme.{Lexeme};

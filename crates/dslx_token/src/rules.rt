@@ -1,4 +1,4 @@
-//! The grammar of DSLX, as tables for the crate `grammar`.
+//! The grammar of DSLX, as tables for `base::grammar`.
 //!
 //! `docs/dslx.grammar` is its text. `tools/grammar_tables.py` writes from it the tables and the names of the
 //! numbers: of the kinds of token in [`kind`], of the nonterminals in [`nonterminal`], and of the

@@ -22,3 +22,5 @@ pub mod OnTables
 pub mod OnWords
 -- for other crates' proofs
 pub mod Lemmas
+-- what an accepted text is lowered to has types: those of the text, without signs and names
+pub mod OnTyped

@@ -14,3 +14,5 @@ pub mod Nets
 pub mod Tables
 -- texts
 pub mod Texts
+-- what an accepted text is lowered to has types: those of the text, without signs and names
+pub mod Typed

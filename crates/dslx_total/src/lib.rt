@@ -1,4 +1,4 @@
-//! Each accepted text is lowered to a checked text, with all that it reaches.
+//! Each accepted text is lowered to a checked text that has types, with all that it reaches.
 #![tactic(auto)]
 
 pub mod checked;
@@ -12,4 +12,5 @@ pub mod nets;
 pub mod outcomes;
 pub mod tables;
 pub mod texts;
+pub mod typed;
 pub mod words;

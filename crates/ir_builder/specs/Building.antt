@@ -1,12 +1,12 @@
 -- How a package is built: each token adds itself, and each complete tree of a rule makes one of the parts of its symbols.
 use Rattle.std.specs.Prelude.{ℕ, List, [], ◌∷◌, reverse, slice_index_or}
 use Rattle.xb_span.specs.Spans.{nowhere}
-use Rattle.grammar.specs.declared.bottom_up.Step.{Step}
-use Rattle.grammar.specs.declared.bottom_up.Step.TheVariants.{Shift, Reduce}
+use Rattle.base.specs.declared.grammar.bottom_up.Step.{Step}
+use Rattle.base.specs.declared.grammar.bottom_up.Step.TheVariants.{Shift, Reduce}
 use Rattle.dslx_token.specs.Lexeme.{Lexeme}
 use Rattle.ir_tree.specs.declared.package.Ends.TheVariants as ends
 use Rattle.ir_tree.specs.declared.package.Package.{Package}
-use Rattle.ir_verify.specs.declared.line_spans.LineSpans.{LineSpans}
+use Rattle.ir_tree.specs.declared.rules.line_spans.LineSpans.{LineSpans}
 use Rattle.ir_builder.specs.declared.builder.Spanned.{Spanned}
 use Rattle.ir_builder.specs.declared.rule.Rule.{Rule}
 use Rattle.ir_builder.specs.declared.rule.Rule.TheVariants.{Keep, Skip, Start, More, Name, Number, BitsElement, TokenElement, TupleElement, TypeOf, NumberValue, TupleValue, ArrayValue, StateOperand, NodeOperand, SomeOperand, NoOperand, PlainCall, SliceCall, DynamicCall, ExtendCall, SelCall, IndexCall, IndicesCall, LiteralCall, SiteChannel, SiteCall, ChannelId, Input, Output, Inner, ChannelOf, HeadOf, NodeOf, NextOf, ProcOf, PackageLine}

@@ -5,7 +5,7 @@ use Rattle.dslx_token.specs.Lexeme.{Lexeme}
 use Rattle.ir_tree.specs.declared.constant.Constant.{Constant, Number}
 use Rattle.ir_tree.specs.declared.ir_type.IrType.{IrType, Token}
 use Rattle.ir_tree.specs.declared.node.Attributes.TheVariants as attributes
-use Rattle.ir_token.specs.Tokens.{ir_lexeme_at}
+use Rattle.ir_builder.specs.Token.Tokens.{ir_lexeme_at}
 use Rattle.ir_builder.specs.declared.state.Call.{Call}
 use Rattle.ir_builder.specs.declared.state.State.{State}
 

@@ -6,3 +6,5 @@ pub mod Empty
 pub mod Named
 -- what each rule makes of the parts of its symbols
 pub mod Rules
+-- the tokens of an IR text
+pub mod Token

@@ -6,8 +6,8 @@ use Rattle.delay_model.specs.Names.{op_named}
 use Rattle.delay_model.specs.declared.op.Op.{Op}
 use Rattle.delay_model.specs.declared.op.Op.TheVariants.{AfterAll}
 use Rattle.dslx_token.specs.Lexeme.{Lexeme}
-use Rattle.ir_token.specs.Kinds.{op_part}
-use Rattle.ir_token.specs.Said.{number_said, small_said, id_said}
+use Rattle.ir_builder.specs.Token.Kinds.{op_part}
+use Rattle.ir_builder.specs.Token.Said.{number_said, small_said, id_said}
 use Rattle.ir_tree.specs.declared.constant.Constant as constants
 use Rattle.ir_tree.specs.declared.ir_type.IrType.{IrType, Bits, Token, Tuple, out-IrType}
 use Rattle.ir_tree.specs.declared.ir_type.IrType.TheOpen.{IrType-F}
@@ -19,7 +19,7 @@ use Rattle.ir_tree.specs.declared.node.Operand.TheVariants as operands
 use Rattle.ir_tree.specs.declared.package.Ends.{Ends}
 use Rattle.ir_tree.specs.declared.package.Ends.TheVariants as ends
 use Rattle.ir_tree.specs.declared.package.Proc.{Proc}
-use Rattle.ir_verify.specs.declared.line_spans.ProcSpans.{ProcSpans}
+use Rattle.ir_tree.specs.declared.rules.line_spans.ProcSpans.{ProcSpans}
 use Rattle.ir_builder.specs.declared.state.Call.{Call}
 use Rattle.ir_builder.specs.declared.state.State.{State}
 use Rattle.ir_builder.specs.Empty.{no_token, no_type, no_constant, no_call, join}

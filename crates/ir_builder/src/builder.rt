@@ -1,7 +1,7 @@
 //! Building the package.
 
 ghost use Rattle.std.specs.Prelude.{◌≡◌, ◌∷◌, List, drop, reverse, IfOk, OnOk};
-ghost use Rattle.grammar.specs.declared.bottom_up.Step.{Step};
+ghost use Rattle.base.specs.declared.grammar.bottom_up.Step.{Step};
 ghost use Rattle.dslx_token.specs.Lexeme.{Lexeme};
 ghost use Rattle.ir_builder.specs.Building.{built, spanned_of};
 ghost use Rattle.ir_builder.specs.Empty.{empty};
@@ -9,11 +9,11 @@ ghost use Rattle.ir_builder.specs.Empty.{empty};
 use crate::lines::name_of;
 use crate::rule::rule_of;
 use crate::state::{NOWHERE, State};
+use crate::token::Token;
+use base::grammar::Step;
 use base::stacks::Stack;
-use grammar::Step;
-use ir_token::Token;
 use ir_tree::Package;
-use ir_verify::LineSpans;
+use ir_tree::rules::LineSpans;
 use std::alloc::{AllocError, Global};
 use xb_value::Seq;
 

@@ -6,7 +6,7 @@ ghost use Rattle.ir_builder.specs.Rules.{plain_call, slice_call, dynamic_call, e
 
 use crate::parts::numbered;
 use crate::state::{Call, State};
-use ir_token::Token;
+use crate::token::Token;
 use ir_tree::{Attributes, Constant, Operand, Operands};
 use std::alloc::{AllocError, Global};
 use xb_value::Seq;

@@ -1,4 +1,4 @@
-//! Building packages from the tokens of their texts.
+//! The tokens of an IR text, and building packages from them.
 //!
 //! A package is built from the bottom up, with a stack for each sort of part; what names stand for is looked up as they are read.
 //! [`build`] follows the steps in which a derivation of the grammar is completed.
@@ -13,5 +13,6 @@ mod names;
 mod parts;
 mod rule;
 mod state;
+pub mod token;
 
 pub use builder::{Spanned, build};

@@ -5,11 +5,11 @@ ghost use Rattle.ir_builder.specs.Empty.{no_call};
 ghost use Rattle.ir_builder.specs.Rules.{channel_id, outer, inner, channel_of, op_or, node_added, node_made, node_of, head_of, next_of, proc_made, spans_made, proc_of, package_line, token_of};
 
 use crate::state::{Call, NOWHERE, State, join};
+use crate::token::Token;
 use base::texts::Name;
 use delay_model::Op;
-use ir_token::Token;
+use ir_tree::rules::ProcSpans;
 use ir_tree::{Attributes, Channel, Constant, Ends, IrType, Node, Operand, Operands, Proc};
-use ir_verify::ProcSpans;
 use std::alloc::{AllocError, Global};
 use xb_span::Span;
 use xb_value::Seq;

@@ -5,7 +5,7 @@ ghost use Rattle.ir_builder.specs.Named.{numbered};
 ghost use Rattle.ir_builder.specs.Rules.{name, number, bits_element, token_element, tuple_element, sized, type_of, number_value, tuple_value, array_value, state_operand, node_operand, some_operand, no_operand};
 
 use crate::state::State;
-use ir_token::Token;
+use crate::token::Token;
 use ir_tree::{Constant, IrType, Operand};
 use std::alloc::{AllocError, Global};
 use xb_value::Seq;

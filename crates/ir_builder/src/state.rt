@@ -5,10 +5,10 @@ ghost use Rattle.ir_builder.specs.Empty.{empty, join};
 ghost use Rattle.ir_builder.specs.Rules.{skip, start, more};
 
 use crate::names::Names;
+use crate::token::Token;
 use base::stacks::Stack;
-use ir_token::Token;
+use ir_tree::rules::ProcSpans;
 use ir_tree::{Attributes, Channel, Constant, Ends, IrType, Node, Operand, Operands, Proc};
-use ir_verify::ProcSpans;
 use std::alloc::{AllocError, Global};
 use xb_span::Span;
 

@@ -1,7 +1,7 @@
 ghost use Rattle.std.specs.Prelude.{◌≡◌, slice_get, Some};
 ghost use Rattle.net_core.specs.Behavior.{KeepsTypes};
-ghost use Rattle.ir_verify.specs.Verified.{IsVerified};
-ghost use Rattle.ir_verify.proofs.Lemmas.Typed.{keeps_types};
+ghost use Rattle.ir_tree.specs.Rules.Verified.{IsVerified};
+ghost use Rattle.ir_tree.proofs.Lemmas.Rules.Typed.{keeps_types};
 
 use crate::walk::Walk;
 use ir_tree::{Package, Proc};
@@ -22,7 +22,7 @@ pub struct IrBody<'a> {
 
 impl<'a> IrBody<'a> {
     ghost use Rattle.std.specs.Prelude.{◌≡◌, ◌<◌, length, slice_get, Some};
-    ghost use Rattle.ir_verify.specs.Verified.{IsVerified};
+    ghost use Rattle.ir_tree.specs.Rules.Verified.{IsVerified};
     ghost use Rattle.ir_tree.specs.Networks.{behaviors_of};
     ghost use Rattle.ir_eval.specs.IrBodies.{behavior_of};
 

@@ -6,7 +6,7 @@ ghost use Rattle.xb_value.specs.Unflat.{unflat_of};
 ghost use Rattle.xb_value.specs.Width.{width_of};
 ghost use Rattle.ir_tree.specs.NodeValues.{heard, channel_type};
 ghost use Rattle.ir_tree.specs.Activations.{sent_by, first_word};
-ghost use Rattle.ir_verify.specs.Typed.Typed.{AreChannels, IsWordType};
+ghost use Rattle.ir_tree.specs.Rules.Typed.Typed.{AreChannels, IsWordType};
 ghost use Rattle.ir_eval.specs.Bodies.{word_or, received_word};
 
 use crate::operation::nothing;
@@ -98,7 +98,7 @@ impl Walk {
     ghost use Rattle.ir_tree.specs.declared.node.Node.{Node};
     ghost use Rattle.ir_tree.specs.declared.package.Proc.{Proc};
     ghost use Rattle.ir_tree.specs.Activations.{activation, sites_by};
-    ghost use Rattle.ir_verify.specs.Typed.Typed.{AreChannels};
+    ghost use Rattle.ir_tree.specs.Rules.Typed.Typed.{AreChannels};
     ghost use Rattle.ir_eval.specs.Inner.Walks.{StandsAt};
 
     /// Before the first node.

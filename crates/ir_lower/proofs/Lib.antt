@@ -10,3 +10,5 @@ pub mod OnWhole
 pub mod OnText
 -- what a lowered instance is made of
 pub mod OnMade
+-- the types of checked expressions, of steps and of functions, computed
+pub mod OnTypes

@@ -5,12 +5,12 @@ use Rattle.ir_tree.specs.declared.package.Proc.{Proc}
 use Rattle.ir_tree.specs.declared.node.Operand.{Operand}
 use Rattle.ir_tree.specs.Activations.{activation}
 use Rattle.ir_tree.specs.SameBehavior.{SameActivations}
-use Rattle.ir_nodes.specs.declared.nodes.Nodes.{Nodes}
+use Rattle.ir_rebuild.specs.declared.putting.nodes.Nodes.{Nodes}
 use Rattle.dslx_core.specs.declared.design.Function.{Function}
 use Rattle.dslx_core.specs.declared.design.Instance.{Instance}
-use Rattle.ir_lower_exprs.specs.Calls.{calls_below}
-use Rattle.ir_lower_acts.specs.InstanceActivities.{instance_behavior}
-use Rattle.ir_lower_procs.specs.Instances.{ActivationLowers, proc_of}
+use Rattle.ir_lower_nodes.specs.Exprs.Calls.{calls_below}
+use Rattle.ir_lower_nodes.specs.Acts.InstanceActivities.{instance_behavior}
+use Rattle.ir_lower_nodes.specs.Procs.Instances.{ActivationLowers, proc_of}
 use Rattle.ir_lower.specs.Inner.Made.{ProcLowers}
 
 -- a proc of the nodes of an instance does what the instance does

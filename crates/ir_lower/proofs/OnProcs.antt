@@ -12,15 +12,15 @@ use Rattle.dslx_meaning.specs.Network.{width_of_chan}
 use Rattle.dslx_core.specs.CoreValues.{Functions}
 use Rattle.dslx_core.specs.Designs.{CoreElaborated, core_activation, core_behavior, core_chans, functions_from, functions_of, no_function, sites_of_steps, token}
 use Rattle.dslx_core.specs.declared.design.Design.{Design}
-use Rattle.dslx_core_types.specs.Designs.{no_types, types_from}
-use Rattle.ir_lower_exprs.specs.Calls.{AreNodeFunctions, calls_below, types_below}
-use Rattle.ir_lower_acts.specs.Activities.{word_width}
-use Rattle.ir_lower_acts.specs.InstanceActivities.{instance_behavior}
-use Rattle.ir_lower_procs.specs.Instances.{next_node_type}
-use Rattle.ir_lower_types.specs.declared.signature.Signature.{Signature}
-use Rattle.ir_lower_types.specs.Signatures.{call_types, signatures_of}
-use Rattle.ir_lower_types.specs.Words.{word_at}
-use Rattle.ir_lower_steps.specs.Steps.{MembersCarryWords}
+use Rattle.dslx_core.specs.Types.Designs.{no_types, types_from}
+use Rattle.ir_lower_nodes.specs.Exprs.Calls.{AreNodeFunctions, calls_below, types_below}
+use Rattle.ir_lower_nodes.specs.Acts.Activities.{word_width}
+use Rattle.ir_lower_nodes.specs.Acts.InstanceActivities.{instance_behavior}
+use Rattle.ir_lower_nodes.specs.Procs.Instances.{next_node_type}
+use Rattle.ir_lower.specs.declared.types.signature.Signature.{Signature}
+use Rattle.ir_lower.specs.Types.Signatures.{call_types, signatures_of}
+use Rattle.ir_lower.specs.Types.Words.{word_at}
+use Rattle.ir_lower_nodes.specs.Steps.Steps.{MembersCarryWords}
 use Rattle.ir_lower.specs.Inner.Made.{IsLoweredProc}
 use Rattle.net_core.specs.declared.net.Chan.{Chan}
 

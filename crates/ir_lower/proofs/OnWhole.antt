@@ -10,13 +10,13 @@ use Rattle.ir_tree.specs.declared.package.Proc.{Proc}
 use Rattle.ir_tree.specs.Activations.{activation, sites_of}
 use Rattle.ir_tree.specs.Networks.{behaviors_of, chan_of, head_of, network_of}
 use Rattle.ir_tree.specs.SameBehavior.{SameActivations}
-use Rattle.ir_verify.specs.Verified.{IsVerified}
-use Rattle.ir_verify.proofs.Lemmas.Typed.{verified_proc}
+use Rattle.ir_tree.specs.Rules.Verified.{IsVerified}
+use Rattle.ir_tree.proofs.Lemmas.Rules.Typed.{verified_proc}
 use Rattle.dslx_meaning.specs.Network.{width_of_chan}
 use Rattle.dslx_core.specs.Designs.{CoreElaborated, core_behavior, core_behaviors, core_chans, core_family, core_head, core_network, sites_of_steps}
 use Rattle.dslx_core.specs.declared.design.Design.{Design}
-use Rattle.dslx_network.specs.Bodies.{own_instance}
-use Rattle.ir_lower_acts.specs.Activities.{word_width}
+use Rattle.dslx_interp.specs.Network.Bodies.{own_instance}
+use Rattle.ir_lower_nodes.specs.Acts.Activities.{word_width}
 use Rattle.ir_lower.specs.Inner.Made.{IsLoweredAt, IsLoweredProc, IsPackageOf}
 use Rattle.ir_lower.specs.Lowered.{IsLoweringOf}
 use Rattle.ir_lower.proofs.OnLists.{comes_of, mapped_there, some_same}

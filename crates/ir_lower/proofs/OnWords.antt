@@ -6,12 +6,12 @@ use Rattle.net_core.specs.declared.net.Chan.{Chan}
 use Rattle.ir_tree.specs.declared.package.Channel.{Channel}
 use Rattle.ir_tree.specs.NodeValues.{channel_type}
 use Rattle.ir_tree.specs.Networks.{chan_of}
-use Rattle.ir_verify.specs.Typed.Typed.{AreChannels, IsWordType}
-use Rattle.ir_nodes.specs.Types.{ir_type_of}
+use Rattle.ir_tree.specs.Rules.Typed.Typed.{AreChannels, IsWordType}
+use Rattle.ir_rebuild.specs.Putting.Types.{ir_type_of}
 use Rattle.dslx_meaning.specs.Network.{width_of_chan}
-use Rattle.ir_lower_acts.specs.Activities.{word_width}
-use Rattle.ir_lower_steps.specs.Steps.{MembersCarryWords}
-use Rattle.ir_lower_types.specs.Words.{word_at}
+use Rattle.ir_lower_nodes.specs.Acts.Activities.{word_width}
+use Rattle.ir_lower_nodes.specs.Steps.Steps.{MembersCarryWords}
+use Rattle.ir_lower.specs.Types.Words.{word_at}
 use Rattle.ir_lower.specs.Deep.{word_type}
 use Rattle.ir_lower.specs.Inner.Made.{types_of_chans, types_of_channels}
 use Rattle.ir_lower.proofs.OnLists.{at_map, comes_of, each_there, some_same}

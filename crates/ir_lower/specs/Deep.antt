@@ -9,7 +9,7 @@ use Rattle.net_core.specs.declared.net.Net.{Net}
 use Rattle.net_core.specs.declared.net.ProcHead.{ProcHead}
 use Rattle.net_core.specs.declared.net.Site.{Site}
 use Rattle.ir_tree.specs.NodeTypes.Types.{levels_of}
-use Rattle.ir_nodes.specs.Types.{ir_type_of}
+use Rattle.ir_rebuild.specs.Putting.Types.{ir_type_of}
 
 -- the type of a channel's words
 abbrev pub word_type : List Chan → ℕ → Option Ty

@@ -4,3 +4,5 @@ pub mod Lowered
 pub mod Deep
 -- what functions of this crate promise to one another, and nobody else needs
 pub mod Inner
+-- the types of checked expressions, of steps and of functions, computed
+pub mod Types

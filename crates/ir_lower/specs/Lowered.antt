@@ -4,7 +4,7 @@ use Rattle.xb_span.specs.declared.read_error.ReadError.{ReadError}
 use Rattle.xb_span.specs.declared.read_error.ReadError.TheVariants.{Broken, OutOfMemory, Over, Syntax}
 use Rattle.ir_tree.specs.declared.package.Package.{Package}
 use Rattle.ir_tree.specs.SameBehavior.{IsDenotedBy}
-use Rattle.ir_verify.specs.Verified.{IsVerified}
+use Rattle.ir_tree.specs.Rules.Verified.{IsVerified}
 use Rattle.dslx_core.specs.Designs.{core_behaviors, core_network}
 use Rattle.dslx_core.specs.declared.design.Design.{Design}
 use Rattle.ir_lower.specs.Deep.{deep_limit, receives_deep}

@@ -1,11 +1,11 @@
 //! The channels of a package.
 
 ghost use Rattle.std.specs.Prelude.{◌≡◌, IfOk};
-ghost use Rattle.ir_nodes.specs.Types.{ir_type_of};
+ghost use Rattle.ir_rebuild.specs.Putting.Types.{ir_type_of};
 ghost use Rattle.ir_lower.specs.Inner.Made.{types_of_chans, types_of_channels};
 
 use base::texts::Name;
-use ir_nodes::ir_type;
+use ir_rebuild::putting::ir_type;
 use ir_tree::{Channel, Ends};
 use net_core::{Chan, Kind};
 use std::alloc::{AllocError, Global};

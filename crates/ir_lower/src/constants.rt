@@ -1,7 +1,7 @@
 //! Values as texts write them.
 
 ghost use Rattle.std.specs.Prelude.{◌≡◌, map, IfOk};
-ghost use Rattle.ir_lower_words.specs.Literals.{written};
+ghost use Rattle.ir_lower_nodes.specs.Words.Literals.{written};
 
 use ir_tree::Constant;
 use std::alloc::{AllocError, Global};

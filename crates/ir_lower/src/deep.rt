@@ -2,10 +2,10 @@
 
 ghost use Rattle.std.specs.Prelude.{◌≡◌, nat_lt, IfOk};
 ghost use Rattle.ir_tree.specs.NodeTypes.Types.{levels_of};
-ghost use Rattle.ir_nodes.specs.Types.{ir_type_of};
+ghost use Rattle.ir_rebuild.specs.Putting.Types.{ir_type_of};
 ghost use Rattle.ir_lower.specs.Deep.{deep_limit, is_deep_head, is_deep_site, receives_deep};
 
-use ir_nodes::ir_type;
+use ir_rebuild::putting::ir_type;
 use ir_tree::node_types::levels_of;
 use net_core::{Chan, Net, ProcHead, Site};
 use std::alloc::{AllocError, Global};

@@ -15,6 +15,7 @@ mod members;
 mod procs;
 mod same;
 mod signatures;
+pub mod types;
 mod whole;
 
 pub use laws::packages_mean_the_text;

@@ -3,8 +3,8 @@
 ghost use Rattle.std.specs.Prelude.{◌≡◌, map, Some, IfOk};
 ghost use Rattle.ir_lower.specs.Deep.{word_type};
 
+use crate::types::Stop;
 use dslx_core::{Instance, Step};
-use ir_lower_types::Stop;
 use net_core::{Chan, Site};
 use std::alloc::{AllocError, Global};
 use xb_value::Ty;

@@ -7,12 +7,12 @@ ghost use Rattle.ir_lower.specs.Inner.Made.{AreLowered, IsLoweredAt, IsLoweredPr
 use crate::channels::name_copy;
 use crate::constants::written;
 use crate::members::{members_of, words_of};
+use crate::types::{Signature, Stop, check_steps};
 use base::texts::Name;
 use dslx_core::{Design, Function, Instance};
-use dslx_network::Elaborated;
-use ir_lower_procs::lower_next;
-use ir_lower_types::{Signature, Stop, check_steps};
-use ir_nodes::{Nodes, ir_type};
+use dslx_interp::network::Elaborated;
+use ir_lower_nodes::procs::lower_next;
+use ir_rebuild::putting::{Nodes, ir_type};
 use ir_tree::Proc;
 use net_core::{Chan, ProcHead};
 use std::alloc::{AllocError, Global};

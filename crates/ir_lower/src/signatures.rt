@@ -1,14 +1,14 @@
 //! The signatures of a checked text's functions.
 
 ghost use Rattle.std.specs.Prelude.{IfOk};
-ghost use Rattle.ir_lower_exprs.specs.Calls.{AreNodeFunctions};
-ghost use Rattle.ir_lower_types.specs.Signatures.{signatures_of};
+ghost use Rattle.ir_lower_nodes.specs.Exprs.Calls.{AreNodeFunctions};
+ghost use Rattle.ir_lower.specs.Types.Signatures.{signatures_of};
 
 use crate::members::{members_of, words_of};
 use crate::procs::DEPTH;
+use crate::types::{Signature, Stop, check, check_steps, sign, unsigned_all};
 use dslx_core::{Design, Instance};
-use dslx_network::Elaborated;
-use ir_lower_types::{Signature, Stop, check, check_steps, sign, unsigned_all};
+use dslx_interp::network::Elaborated;
 use net_core::ProcHead;
 use std::alloc::Global;
 use xb_value::Ty;

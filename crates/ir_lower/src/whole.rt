@@ -2,10 +2,10 @@
 
 ghost use Rattle.std.specs.Prelude.{◌≡◌, false, IfErr, IfOk, OnOk, map, slice_get};
 ghost use Rattle.ir_tree.specs.Networks.{network_of};
-ghost use Rattle.ir_verify.specs.Verified.{IsVerified};
+ghost use Rattle.ir_tree.specs.Rules.Verified.{IsVerified};
 ghost use Rattle.dslx_core.specs.Designs.{core_family, core_network};
-ghost use Rattle.dslx_network.specs.Bodies.{own_instance};
-ghost use Rattle.dslx_network.specs.Linked.{IsLinked};
+ghost use Rattle.dslx_interp.specs.Network.Bodies.{own_instance};
+ghost use Rattle.dslx_interp.specs.Network.Linked.{IsLinked};
 ghost use Rattle.ir_lower.specs.Inner.Made.{IsPackageOf};
 ghost use Rattle.ir_lower.specs.Deep.{receives_deep};
 ghost use Rattle.ir_lower.specs.Lowered.{IsLoweringOf, RefusesLowering};
@@ -15,11 +15,11 @@ use crate::deep::{deep_limit, receives_deep};
 use crate::procs::procs_of;
 use crate::same::is_net;
 use crate::signatures::signatures_of;
+use crate::types::Stop;
 use dslx_core::Design;
-use dslx_network::{Elaborated, elaborate};
-use ir_lower_types::Stop;
+use dslx_interp::network::{Elaborated, elaborate};
+use ir_tree::rules::verify;
 use ir_tree::{Package, net_of};
-use ir_verify::verify;
 use net_core::Net;
 use std::alloc::{AllocError, Global};
 use xb_span::ReadError;

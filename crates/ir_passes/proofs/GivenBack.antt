@@ -14,7 +14,7 @@ use Rattle.ir_tree.specs.declared.node.Node.{Node}
 use Rattle.ir_tree.specs.declared.node.Attributes.{Attributes}
 use Rattle.ir_tree.specs.declared.node.Attributes.TheVariants as attributes
 use Rattle.ir_tree.specs.declared.package.Proc.{Proc}
-use Rattle.ir_verify.specs.Lines.{is_there}
+use Rattle.ir_tree.specs.Rules.Lines.{is_there}
 use Rattle.ir_rebuild.specs.Operands.{operands_in, attribute_operands}
 use Rattle.ir_rebuild.specs.Moves.{moved, moved_attributes, moved_node}
 use Rattle.ir_rebuild.specs.Kept.{is_kept, AreKept, AreAllKept, StandBefore}

@@ -14,8 +14,8 @@ use Rattle.ir_tree.specs.declared.node.Attributes.{Attributes}
 use Rattle.ir_tree.specs.declared.node.Attributes.TheVariants as attributes
 use Rattle.ir_tree.specs.declared.package.Proc.{Proc}
 use Rattle.ir_tree.specs.NodeValues.{role_by, role_at}
-use Rattle.ir_verify.specs.Fitting.{type_in, type_or, types_behind}
-use Rattle.ir_verify.specs.Lines.{is_there}
+use Rattle.ir_tree.specs.Rules.Fitting.{type_in, type_or, types_behind}
+use Rattle.ir_tree.specs.Rules.Lines.{is_there}
 use Rattle.ir_tree.specs.NodeTypes.Types.{bits_width}
 use Rattle.ir_rebuild.specs.Operands.{operands_in, attribute_operands, optional_operand, node_of}
 use Rattle.ir_rebuild.specs.Moves.{moved, moved_attributes, moved_node}

@@ -20,11 +20,11 @@ use Rattle.ir_tree.specs.Types.{ty_of, bounded}
 use Rattle.ir_tree.specs.Operations.{chosen}
 use Rattle.ir_tree.specs.NodeTypes.Types.{marks_of, is_bits_where}
 use Rattle.ir_tree.specs.NodeTypes.Constants.{constant_fits, number_fits}
-use Rattle.ir_verify.specs.Fitting.{type_in, type_or, types_behind, types_fit, sel_fits, is_sel, cases_count, defaults}
-use Rattle.ir_verify.specs.Lines.{is_there, are_there, is_literal_of}
+use Rattle.ir_tree.specs.Rules.Fitting.{type_in, type_or, types_behind, types_fit, sel_fits, is_sel, cases_count, defaults}
+use Rattle.ir_tree.specs.Rules.Lines.{is_there, are_there, is_literal_of}
 use Rattle.ir_tree.proofs.Lemmas.NodeTypes.IrTypes.{ty_of-Bits}
 use Rattle.ir_tree.proofs.Lemmas.NodeTypes.ConstantCases.{fits-Bits}
-use Rattle.ir_verify.proofs.Lemmas.Typed.Tests.{bits_is}
+use Rattle.ir_tree.proofs.Lemmas.Rules.Typed.Tests.{bits_is}
 use Rattle.ir_rebuild.specs.Operands.{node_of, optional_operand}
 use Rattle.ir_rebuild.specs.Built.{FitsAt, AreBuilt, is_plain_op}
 use Rattle.ir_rebuild.proofs.Lemmas.{node_there}

@@ -17,8 +17,8 @@ use Rattle.ir_tree.specs.declared.node.Node.{Node}
 use Rattle.ir_tree.specs.declared.node.Attributes.{Attributes}
 use Rattle.ir_tree.specs.declared.node.Attributes.TheVariants as attributes
 use Rattle.ir_tree.specs.NodeTypes.Types.{bits_width, width_there}
-use Rattle.ir_verify.specs.Fitting.{type_in, type_or, types_behind, types_fit, predicate_fits, first_is_token, site_fits, is_literal}
-use Rattle.ir_verify.specs.Lines.{is_there}
+use Rattle.ir_tree.specs.Rules.Fitting.{type_in, type_or, types_behind, types_fit, predicate_fits, first_is_token, site_fits, is_literal}
+use Rattle.ir_tree.specs.Rules.Lines.{is_there}
 use Rattle.ir_rebuild.specs.Operands.{operands_in, attribute_operands, node_of}
 use Rattle.ir_rebuild.specs.Built.{AreBuilt, FitsAt, is_plain_op, numbered}
 use Rattle.ir_rebuild.proofs.Lemmas.{all_there, last_there}

@@ -9,7 +9,7 @@ use Rattle.ir_tree.specs.declared.node.Node.{Node}
 use Rattle.ir_tree.specs.declared.node.Attributes.{Attributes}
 use Rattle.ir_tree.specs.declared.node.Attributes.TheVariants as attributes
 use Rattle.delay_model.specs.Signatures.{is_met, count_of}
-use Rattle.ir_verify.specs.Fitting.{types_behind, types_fit, is_tuple_index, tuple_index_fits}
+use Rattle.ir_tree.specs.Rules.Fitting.{types_behind, types_fit, is_tuple_index, tuple_index_fits}
 use Rattle.ir_rebuild.specs.Operands.{node_of}
 use Rattle.ir_rebuild.specs.Moves.{moved, moved_node}
 use Rattle.ir_rebuild.specs.Built.{AreBuilt, is_plain_op, numbered}

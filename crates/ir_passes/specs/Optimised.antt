@@ -3,7 +3,7 @@ use Rattle.std.specs.Prelude.{◌≡◌, ◌*◌, ◌≤◌, ℕ, List, length, 
 use Rattle.ir_tree.specs.declared.package.Package.{Package}
 use Rattle.ir_tree.specs.declared.package.Proc.{Proc}
 use Rattle.ir_tree.specs.SameBehavior.{SameBehavior}
-use Rattle.ir_verify.specs.Verified.{IsVerified}
+use Rattle.ir_tree.specs.Rules.Verified.{IsVerified}
 use Rattle.ir_rebuild.specs.Kept.{AreAllKept}
 use Rattle.ir_rebuild.specs.Walks.{EachProcRebuildsTo, SameHead}
 use Rattle.ir_rebuild.specs.Normal.Normal.{AreLive, IsNormal}

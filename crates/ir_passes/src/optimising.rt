@@ -1,11 +1,11 @@
 ghost use Rattle.std.specs.Prelude.{IfOk};
-ghost use Rattle.ir_verify.specs.Verified.{IsVerified};
+ghost use Rattle.ir_tree.specs.Rules.Verified.{IsVerified};
 ghost use Rattle.ir_passes.specs.Optimised.{IsOptimised};
 
 use crate::rules::AllRules;
 use ir_rebuild::rebuild;
 use ir_tree::Package;
-use ir_verify::same::same_behavior_is_an_equivalence;
+use ir_tree::rules::same::same_behavior_is_an_equivalence;
 use std::alloc::{AllocError, Global};
 
 /// The package in its normal form: it means the same, each node is what the rules make of it, and no proc has more than four times

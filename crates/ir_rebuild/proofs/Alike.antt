@@ -19,7 +19,7 @@ use Rattle.ir_tree.specs.declared.package.Channel.{Channel}
 use Rattle.ir_tree.specs.Constants.{no_value}
 use Rattle.ir_tree.specs.NodeValues.{operand_value, optional_value, role_of, role_at, role_by, is_one, is_on, received, pure_value, no_word}
 use Rattle.ir_tree.specs.Activations.{sent}
-use Rattle.ir_verify.specs.Lines.{is_there}
+use Rattle.ir_tree.specs.Rules.Lines.{is_there}
 use Rattle.ir_rebuild.specs.Operands.{optional_operand, attribute_operands, operands_in}
 use Rattle.ir_rebuild.specs.Moves.{moved, moved_node}
 use Rattle.ir_rebuild.specs.Built.{is_plain_op, numbered}

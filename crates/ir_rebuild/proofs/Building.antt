@@ -17,9 +17,9 @@ use Rattle.ir_tree.specs.declared.node.Attributes.{Attributes}
 use Rattle.ir_tree.specs.declared.node.Attributes.TheVariants as attributes
 use Rattle.ir_tree.specs.Constants.{no_value}
 use Rattle.ir_tree.specs.NodeValues.{operand_value, pure_value}
-use Rattle.ir_verify.specs.Fitting.{type_in, type_or, types_behind, node_fits}
+use Rattle.ir_tree.specs.Rules.Fitting.{type_in, type_or, types_behind, node_fits}
 use Rattle.ir_tree.specs.NodeTypes.Types.{marks_of}
-use Rattle.ir_verify.specs.Lines.{is_there, are_there, is_there_if, attributes_there}
+use Rattle.ir_tree.specs.Rules.Lines.{is_there, are_there, is_there_if, attributes_there}
 use Rattle.ir_rebuild.specs.Operands.{optional_operand, attribute_operands, operands_in}
 use Rattle.ir_rebuild.specs.Built.{FitsAt, AreBuilt, AreValues, OperandSimulates, Rewrites, is_plain_op, numbered}
 use Rattle.ir_rebuild.proofs.Moving.{both, and_both, all_parts, fits_still, pure_still}

@@ -16,8 +16,8 @@ use Rattle.ir_tree.specs.declared.node.Attributes.{Attributes}
 use Rattle.ir_tree.specs.declared.node.Attributes.TheVariants as attributes
 use Rattle.ir_tree.specs.declared.package.Channel.{Channel}
 use Rattle.ir_tree.specs.NodeValues.{role_of, role_by}
-use Rattle.ir_verify.specs.Lines.{Seen, see, see_op, see_role, is_there, is_after_all, is_first_part, is_operand, are_only, is_token_of, is_start, follows, role_there, token_is, first_token_is, is_chained_role, is_chained, is_at_end, is_free, may_receive, may_send}
-use Rattle.ir_verify.specs.Verified.{seen_after}
+use Rattle.ir_tree.specs.Rules.Lines.{Seen, see, see_op, see_role, is_there, is_after_all, is_first_part, is_operand, are_only, is_token_of, is_start, follows, role_there, token_is, first_token_is, is_chained_role, is_chained, is_at_end, is_free, may_receive, may_send}
+use Rattle.ir_tree.specs.Rules.Verified.{seen_after}
 use Rattle.ir_rebuild.specs.Moves.{moved, moved_attributes, moved_node}
 use Rattle.ir_rebuild.specs.Kept.{is_kept}
 use Rattle.ir_rebuild.specs.Built.{is_plain_op, numbered}

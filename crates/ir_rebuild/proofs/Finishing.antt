@@ -18,12 +18,12 @@ use Rattle.ir_tree.specs.Types.{ty_of}
 use Rattle.ir_tree.specs.NodeValues.{operand_value, node_values}
 use Rattle.ir_tree.specs.Activations.{sites_of, turns_from, words_from, site_words, setting_of, turns_of, next_state_of, activation}
 use Rattle.ir_tree.specs.SameBehavior.{SameActivations}
-use Rattle.ir_verify.specs.Checks.{Check}
-use Rattle.ir_verify.specs.Fitting.{type_in, types_behind}
+use Rattle.ir_tree.specs.Rules.Checks.{Check}
+use Rattle.ir_tree.specs.Rules.Fitting.{type_in, types_behind}
 use Rattle.ir_tree.specs.NodeTypes.Types.{same_type, marks_of}
-use Rattle.ir_verify.specs.Lines.{Seen, is_there, is_proc_named, is_state, is_value_of, head_checks, next_checks}
-use Rattle.ir_verify.specs.Verified.{nodes_checks, seen_after, at_start, count_check}
-use Rattle.ir_verify.specs.Typed.Typed.{none_broken}
+use Rattle.ir_tree.specs.Rules.Lines.{Seen, is_there, is_proc_named, is_state, is_value_of, head_checks, next_checks}
+use Rattle.ir_tree.specs.Rules.Verified.{nodes_checks, seen_after, at_start, count_check}
+use Rattle.ir_tree.specs.Rules.Typed.Typed.{none_broken}
 use Rattle.std.specs.List.{list_all}
 use Rattle.ir_rebuild.specs.Operands.{operands_in}
 use Rattle.ir_rebuild.specs.Moves.{moved, moved_node}

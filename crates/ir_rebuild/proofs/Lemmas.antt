@@ -1,6 +1,8 @@
 -- What passes know: nodes that are appended, operands that are answered, and the values of operands.
 -- the normal form
 pub mod Normal
+-- putting the nodes of a proc
+pub mod Putting
 use Rattle.std.proofs.Common.{◌≡◌, ℕ, zero, suc, ◌<◌, ◌≤◌, List, [], ◌∷◌, ◌++◌, map, length, get_or, Bool, true, Some, refl, sym, subst, arith}
 use Rattle.std.specs.Prelude.{slice_get}
 use Rattle.std.specs.List.{list_all}
@@ -15,8 +17,8 @@ use Rattle.ir_tree.specs.Types.{ty_of}
 use Rattle.ir_tree.specs.Constants.{no_value}
 use Rattle.ir_tree.specs.declared.package.Channel.{Channel}
 use Rattle.ir_tree.specs.NodeValues.{operand_value, pure_value}
-use Rattle.ir_verify.specs.Fitting.{Types, type_in, type_or, types_behind, node_fits}
-use Rattle.ir_verify.specs.Lines.{is_there, are_there, attributes_there}
+use Rattle.ir_tree.specs.Rules.Fitting.{Types, type_in, type_or, types_behind, node_fits}
+use Rattle.ir_tree.specs.Rules.Lines.{is_there, are_there, attributes_there}
 use Rattle.ir_rebuild.specs.Operands.{operands_in}
 use Rattle.ir_rebuild.specs.Built.{FitsAt, AreBuilt, AreValues, OperandSimulates, Rewrites, is_plain_op, numbered}
 use Rattle.ir_rebuild.specs.Moves.{moved, moved_node, moved_attributes}

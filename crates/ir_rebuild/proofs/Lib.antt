@@ -12,3 +12,5 @@ pub mod Packages
 pub mod Walked
 pub mod Keeping
 pub mod Lemmas
+-- putting the nodes of a proc
+pub mod OnPutting

@@ -17,7 +17,7 @@ use Rattle.ir_tree.specs.declared.package.Channel.{Channel}
 use Rattle.ir_tree.specs.Operations.{plain_value, of_one, of_two, on_word, on_words, on_tuple, slice_value, dyn_slice_value, chosen, element_at, index_value, longer_value}
 use Rattle.ir_tree.specs.NodeValues.{operand_value, optional_value, pure_value, channel_type}
 use Rattle.ir_tree.specs.NodeTypes.Types.{is_token, is_bits, is_bits_of, is_bits_where, bits_width, same_type, each_same, is_array_of, is_array_sized, is_tuple_where}
-use Rattle.ir_verify.specs.Fitting.{Types, type_in, compare_fits, shift_fits, concat_fits, elements_fit, parts_fit, plain_fits, cases_count, is_like, sel_fits, part_is, update_fits, index_fits, predicate_fits, first_is_token, rest_of, sends_type, site_fits, types_fit, node_fits, is_bit_slice, is_dynamic_bit_slice, is_extend, is_sel, is_tuple_index}
+use Rattle.ir_tree.specs.Rules.Fitting.{Types, type_in, compare_fits, shift_fits, concat_fits, elements_fit, parts_fit, plain_fits, cases_count, is_like, sel_fits, part_is, update_fits, index_fits, predicate_fits, first_is_token, rest_of, sends_type, site_fits, types_fit, node_fits, is_bit_slice, is_dynamic_bit_slice, is_extend, is_sel, is_tuple_index}
 use Rattle.ir_rebuild.specs.Operands.{optional_operand, attribute_operands, operands_in}
 use Rattle.ir_rebuild.specs.Moves.{moved_attributes, moved_node}
 

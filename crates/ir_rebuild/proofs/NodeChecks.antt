@@ -16,11 +16,11 @@ use Rattle.ir_tree.specs.declared.node.Attributes.{Attributes}
 use Rattle.ir_tree.specs.declared.node.Attributes.TheVariants as attributes
 use Rattle.ir_tree.specs.declared.package.Channel.{Channel}
 use Rattle.ir_tree.specs.NodeValues.{role_of, role_by, channel_type}
-use Rattle.ir_verify.specs.Checks.{Check, note, noted}
-use Rattle.ir_verify.specs.Fitting.{Types, types_behind, node_fits, types_fit, predicate_fits, first_is_token, site_fits}
-use Rattle.ir_verify.specs.Lines.{Seen, see, see_op, is_after_all, is_id_after, is_named, are_there, attributes_there, is_chained, is_chained_role, see_role, is_at_end, is_typed, own_levels, type_limits, node_checks}
-use Rattle.ir_verify.specs.Verified.{nodes_checks, seen_after}
-use Rattle.ir_verify.specs.Typed.Typed.{none_broken}
+use Rattle.ir_tree.specs.Rules.Checks.{Check, note, noted}
+use Rattle.ir_tree.specs.Rules.Fitting.{Types, types_behind, node_fits, types_fit, predicate_fits, first_is_token, site_fits}
+use Rattle.ir_tree.specs.Rules.Lines.{Seen, see, see_op, is_after_all, is_id_after, is_named, are_there, attributes_there, is_chained, is_chained_role, see_role, is_at_end, is_typed, own_levels, type_limits, node_checks}
+use Rattle.ir_tree.specs.Rules.Verified.{nodes_checks, seen_after}
+use Rattle.ir_tree.specs.Rules.Typed.Typed.{none_broken}
 use Rattle.ir_rebuild.specs.Built.{FitsAt, is_plain_op}
 use Rattle.ir_rebuild.proofs.Moving.{both, and_both}
 

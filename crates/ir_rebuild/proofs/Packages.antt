@@ -10,16 +10,16 @@ use Rattle.ir_tree.specs.Constants.{constant_value}
 use Rattle.ir_tree.specs.Activations.{activation, sites_of}
 use Rattle.ir_tree.specs.Networks.{head_of, chan_of}
 use Rattle.ir_tree.specs.SameBehavior.{SameActivations, SameBehavior}
-use Rattle.ir_verify.specs.Checks.{Check, rule_at}
-use Rattle.ir_verify.specs.RuleNumbers as rule
-use Rattle.ir_verify.specs.Lines.{Seen, package_checks, head_checks, next_checks, is_name, is_plain, is_some_proc}
+use Rattle.ir_tree.specs.Rules.Checks.{Check, rule_at}
+use Rattle.ir_tree.specs.Rules.RuleNumbers as rule
+use Rattle.ir_tree.specs.Rules.Lines.{Seen, package_checks, head_checks, next_checks, is_name, is_plain, is_some_proc}
 use Rattle.xb_span.specs.declared.fault.Fault.TheVariants.{Passed}
 use Rattle.xb_span.specs.declared.limit.What.TheVariants as what
 use Rattle.xb_span.specs.Spans.{nowhere}
-use Rattle.ir_verify.specs.Verified.{IsVerified, first_fault, nowhere_proc, nowhere_at_all, channels_checks, procs_checks, proc_checks, seen_after, at_start, nothing_seen, checks_of, nodes_checks, count_check}
-use Rattle.ir_verify.specs.Typed.Typed.{none_broken}
-use Rattle.ir_verify.proofs.Lemmas.Typed.Checked.{none_noted}
-use Rattle.ir_verify.proofs.Lemmas.Typed.{verified_proc}
+use Rattle.ir_tree.specs.Rules.Verified.{IsVerified, first_fault, nowhere_proc, nowhere_at_all, channels_checks, procs_checks, proc_checks, seen_after, at_start, nothing_seen, checks_of, nodes_checks, count_check}
+use Rattle.ir_tree.specs.Rules.Typed.Typed.{none_broken}
+use Rattle.ir_tree.proofs.Lemmas.Rules.Typed.Checked.{none_noted}
+use Rattle.ir_tree.proofs.Lemmas.Rules.Typed.{verified_proc}
 use Rattle.ir_rebuild.specs.Inner.Rebuilt.{IsCheckedBehind, IsCheckedProc, IsRebuilt}
 use Rattle.ir_rebuild.proofs.Moving.{both, and_both}
 use Rattle.ir_rebuild.proofs.Finishing.{take_one, all_taken}

@@ -24,11 +24,11 @@ use Rattle.ir_tree.specs.declared.package.Proc.{Proc}
 use Rattle.ir_tree.specs.Types.{ty_of}
 use Rattle.ir_tree.specs.NodeValues.{role_of}
 use Rattle.ir_tree.specs.Activations.{sites_by, sites_of}
-use Rattle.ir_verify.specs.Fitting.{type_or}
-use Rattle.ir_verify.specs.Lines.{Seen, see, is_there, is_id_after, own_levels, type_limits, head_checks}
-use Rattle.ir_verify.specs.Verified.{nodes_checks, seen_after, at_start}
-use Rattle.ir_verify.specs.Typed.Typed.{none_broken}
-use Rattle.ir_verify.proofs.Lemmas.Typed.Scopes.{IsOperand}
+use Rattle.ir_tree.specs.Rules.Fitting.{type_or}
+use Rattle.ir_tree.specs.Rules.Lines.{Seen, see, is_there, is_id_after, own_levels, type_limits, head_checks}
+use Rattle.ir_tree.specs.Rules.Verified.{nodes_checks, seen_after, at_start}
+use Rattle.ir_tree.specs.Rules.Typed.Typed.{none_broken}
+use Rattle.ir_tree.proofs.Lemmas.Rules.Typed.Scopes.{IsOperand}
 use Rattle.ir_rebuild.specs.Operands.{operands_in, node_of}
 use Rattle.ir_rebuild.specs.Moves.{moved, moved_attributes, moved_node}
 use Rattle.ir_rebuild.specs.Kept.{is_kept, is_site, AreKept}

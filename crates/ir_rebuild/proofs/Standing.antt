@@ -19,10 +19,10 @@ use Rattle.ir_tree.specs.declared.package.Channel.{Channel}
 use Rattle.ir_tree.specs.Constants.{no_value}
 use Rattle.ir_tree.specs.NodeValues.{operand_value, role_of, role_by, role_at}
 use Rattle.ir_tree.specs.Activations.{sites_of}
-use Rattle.ir_verify.specs.Fitting.{type_in, type_or, types_behind, node_fits}
-use Rattle.ir_verify.specs.Lines.{Seen, is_there, are_there, attributes_there, is_id_after, is_literal_of, is_typed, own_levels, type_limits}
+use Rattle.ir_tree.specs.Rules.Fitting.{type_in, type_or, types_behind, node_fits}
+use Rattle.ir_tree.specs.Rules.Lines.{Seen, is_there, are_there, attributes_there, is_id_after, is_literal_of, is_typed, own_levels, type_limits}
 use Rattle.ir_tree.specs.NodeTypes.Types.{marks_of}
-use Rattle.ir_verify.specs.Typed.Typed.{none_broken}
+use Rattle.ir_tree.specs.Rules.Typed.Typed.{none_broken}
 use Rattle.ir_rebuild.specs.Operands.{optional_operand, attribute_operands, operands_in}
 use Rattle.ir_rebuild.specs.Moves.{moved, moved_attributes, moved_node}
 use Rattle.ir_rebuild.specs.Kept.{is_kept}

@@ -13,12 +13,12 @@ use Rattle.ir_tree.specs.declared.node.Role.TheVariants as role
 use Rattle.ir_tree.specs.declared.package.Channel.{Channel}
 use Rattle.ir_tree.specs.Constants.{no_value}
 use Rattle.ir_tree.specs.NodeValues.{role_of, Setting, is_on, pure_value, no_word, role_value, value_by}
-use Rattle.ir_verify.specs.Fitting.{types_behind}
-use Rattle.ir_verify.specs.Lines.{Seen, see, is_there, node_checks}
-use Rattle.ir_verify.specs.Verified.{nodes_checks}
-use Rattle.ir_verify.specs.Typed.Typed.{AreChannels}
-use Rattle.ir_verify.proofs.Lemmas.Typed.Scopes.{IsOperand, IsTyped, AreTyped, none_typed, more_typed, operands_typed}
-use Rattle.ir_verify.proofs.Lemmas.Typed.Nodes.{no_fault, node_typed}
+use Rattle.ir_tree.specs.Rules.Fitting.{types_behind}
+use Rattle.ir_tree.specs.Rules.Lines.{Seen, see, is_there, node_checks}
+use Rattle.ir_tree.specs.Rules.Verified.{nodes_checks}
+use Rattle.ir_tree.specs.Rules.Typed.Typed.{AreChannels}
+use Rattle.ir_tree.proofs.Lemmas.Rules.Typed.Scopes.{IsOperand, IsTyped, AreTyped, none_typed, more_typed, operands_typed}
+use Rattle.ir_tree.proofs.Lemmas.Rules.Typed.Nodes.{no_fault, node_typed}
 use Rattle.ir_rebuild.specs.Operands.{operands_in}
 use Rattle.ir_rebuild.specs.Built.{AreValues, is_plain_op}
 use Rattle.ir_rebuild.proofs.Walking.{Walk, Words, word_at, step_by, step, walk, start}

@@ -12,9 +12,9 @@ use Rattle.ir_tree.specs.Types.{ty_of}
 use Rattle.ir_tree.specs.Constants.{no_value}
 use Rattle.ir_tree.specs.NodeValues.{operand_value, pure_value}
 use Rattle.ir_tree.specs.NodeTypes.Types.{marks_of}
-use Rattle.ir_verify.specs.Fitting.{type_in, types_behind, node_fits}
-use Rattle.ir_verify.specs.Lines.{are_there, attributes_there, is_there, is_typed, type_limits}
-use Rattle.ir_verify.specs.Typed.Typed.{none_broken}
+use Rattle.ir_tree.specs.Rules.Fitting.{type_in, types_behind, node_fits}
+use Rattle.ir_tree.specs.Rules.Lines.{are_there, attributes_there, is_there, is_typed, type_limits}
+use Rattle.ir_tree.specs.Rules.Typed.Typed.{none_broken}
 use Rattle.ir_rebuild.specs.Operands.{operands_in}
 
 -- operations that have no part in the order of an activation: all but `after_all`, `receive` and `send`

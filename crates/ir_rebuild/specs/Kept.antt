@@ -8,7 +8,7 @@ use Rattle.ir_tree.specs.declared.node.Role.{Role}
 use Rattle.ir_tree.specs.declared.node.Role.TheVariants as role
 use Rattle.ir_tree.specs.declared.package.Proc.{Proc}
 use Rattle.ir_tree.specs.NodeValues.{role_of}
-use Rattle.ir_verify.specs.Lines.{is_there}
+use Rattle.ir_tree.specs.Rules.Lines.{is_there}
 use Rattle.ir_rebuild.specs.Operands.{operands_in}
 
 abbrev pub is_kept : List Bool → Operand → Bool

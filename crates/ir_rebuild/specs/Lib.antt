@@ -14,3 +14,5 @@ pub mod Walks
 pub mod Inner
 -- the normal form
 pub mod Normal
+-- putting the nodes of a proc
+pub mod Putting

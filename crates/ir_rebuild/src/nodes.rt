@@ -4,7 +4,7 @@ ghost use Rattle.std.specs.Prelude.{◌≡◌, ◌∷◌, ◌++◌, [], length, 
 ghost use Rattle.std.specs.Option.{option_copied};
 ghost use Rattle.ir_tree.specs.declared.ir_type.IrType.{Token};
 ghost use Rattle.ir_tree.specs.declared.node.Operand.TheVariants as operands;
-ghost use Rattle.ir_verify.specs.Fitting.{type_in, types_behind};
+ghost use Rattle.ir_tree.specs.Rules.Fitting.{type_in, types_behind};
 ghost use Rattle.ir_rebuild.specs.Operands.{node_of};
 ghost use Rattle.ir_rebuild.specs.Built.{numbered};
 

@@ -4,7 +4,7 @@ ghost use Rattle.std.specs.Prelude.{◌≡◌, true, false, get_or, length, IfOk
 ghost use Rattle.ir_tree.specs.declared.package.Channel.{Channel};
 ghost use Rattle.ir_tree.specs.declared.node.Operand.TheVariants as operands;
 ghost use Rattle.ir_tree.specs.SameBehavior.{SameBehavior};
-ghost use Rattle.ir_verify.specs.Verified.{IsVerified};
+ghost use Rattle.ir_tree.specs.Rules.Verified.{IsVerified};
 ghost use Rattle.ir_rebuild.specs.Operands.{node_of};
 ghost use Rattle.ir_rebuild.specs.Moves.{moved, moved_node};
 ghost use Rattle.ir_rebuild.specs.Built.{is_plain_op, AreBuilt, FitsAt};

@@ -3,8 +3,8 @@
 use crate::sample::{node, package};
 use delay_model::{Extend, Op};
 use ir_rebuild::append;
+use ir_tree::rules::verify;
 use ir_tree::{Attributes, Node, Operand, Package};
-use ir_verify::verify;
 use std::alloc::{AllocError, Global};
 use std::test::Fail;
 

@@ -2,11 +2,11 @@
 
 ghost use Rattle.std.specs.Prelude.{◌<◌, ◌^◌, length};
 
-use ir_token::rules::kind::{
+use ir_builder::token::rules::kind::{
     ASSIGN, COLON, COMMA, END, ID, LARGE, LBRACE, LPAREN, NAME, OPID, OWN, PLAIN, RPAREN, SITE,
     SMALL, ST, TOKEN,
 };
-use ir_token::tokens;
+use ir_builder::token::tokens;
 use std::alloc::Global;
 use std::test::Fail;
 use xb_span::ReadError;

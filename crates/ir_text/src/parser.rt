@@ -1,6 +1,6 @@
 //! Reading IR texts into packages.
 //!
-//! [`read_ir`] accepts exactly the texts that the grammar of `ir_token::rules` derives, that nest no deeper than the limit, and whose
+//! [`read_ir`] accepts exactly the texts that the grammar of `ir_builder::token::rules` derives, that nest no deeper than the limit, and whose
 //! package breaks no rule and passes no limit.
 //!
 //! Cost: linear in the text. Nothing recurses deeper than the limit on nesting.

@@ -3,3 +3,5 @@ pub mod EachRead
 pub mod OnNodeTypes
 -- for other crates' proofs
 pub mod Lemmas
+-- the rules and limits of packages
+pub mod OnRules

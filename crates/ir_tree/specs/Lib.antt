@@ -14,3 +14,5 @@ pub mod Networks
 pub mod SameBehavior
 -- types and constants of nodes
 pub mod NodeTypes
+-- the rules and limits of packages
+pub mod Rules

@@ -1,4 +1,4 @@
-//! Packages of the intermediate language: what their text says, and what it means.
+//! Packages of the intermediate language: their text, what it means, their rules and limits.
 //!
 //! A package is a tree without spans: channels, and procs of nodes in line order, each named by its index. `specs/` says what
 //! each node's value is (`NodeValues`), what a proc does in an activation (`Activations`), which network a package is
@@ -12,6 +12,7 @@ mod node;
 pub mod node_types;
 mod operands;
 mod package;
+pub mod rules;
 
 pub use constant::Constant;
 pub use ir_type::IrType;

@@ -1,6 +1,6 @@
 ghost use Rattle.std.specs.Prelude.{◌≡◌, IfOk};
 ghost use Rattle.ir_tree.specs.SameBehavior.{SameBehavior};
-ghost use Rattle.ir_verify.specs.Verified.{IsVerified};
+ghost use Rattle.ir_tree.specs.Rules.Verified.{IsVerified};
 ghost use Rattle.ir_rebuild.specs.Walks.{EachProcRebuildsTo, SameHead};
 ghost use Rattle.ir_rebuild.specs.Normal.Normal.{AreLive};
 ghost use Rattle.pass_dead.specs.Stays.{Stays};

@@ -19,9 +19,9 @@ use Rattle.ir_tree.specs.NodeTypes.Types.{marks_of, any_token, same_type, each_s
 use Rattle.ir_tree.specs.NodeTypes.Constants.{constant_fits}
 use Rattle.ir_tree.specs.declared.node_types.types.Marks.{Marks}
 use Rattle.ir_tree.proofs.Lemmas.NodeTypes.IrTypes.{type_cases}
-use Rattle.ir_verify.specs.Fitting.{Types, type_in, type_or, types_behind, types_fit, plain_fits, compare_fits, all_bits, all_bits_of, is_bit_slice, is_dynamic_bit_slice, is_extend, is_tuple_index, slice_fits, dynamic_fits, extend_fits, tuple_index_fits, index_fits, update_fits, part_is}
-use Rattle.ir_verify.specs.Lines.{is_literal_of}
-use Rattle.ir_verify.proofs.Lemmas.Typed.Tests.{bits_is, tuple_is, types_same, same_is, marks-Bits, marks-Tuple, marks-Token}
+use Rattle.ir_tree.specs.Rules.Fitting.{Types, type_in, type_or, types_behind, types_fit, plain_fits, compare_fits, all_bits, all_bits_of, is_bit_slice, is_dynamic_bit_slice, is_extend, is_tuple_index, slice_fits, dynamic_fits, extend_fits, tuple_index_fits, index_fits, update_fits, part_is}
+use Rattle.ir_tree.specs.Rules.Lines.{is_literal_of}
+use Rattle.ir_tree.proofs.Lemmas.Rules.Typed.Tests.{bits_is, tuple_is, types_same, same_is, marks-Bits, marks-Tuple, marks-Token}
 use Rattle.ir_rebuild.specs.Built.{FitsAt, AreBuilt, is_plain_op}
 use Rattle.ir_rebuild.proofs.Lemmas.Normal.{op_is_literal, constant_there}
 use Rattle.pass_fold.specs.Folds.{is_literal_node, is_literal, are_folded, is_foldable, is_foldable_by}

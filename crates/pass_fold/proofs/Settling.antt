@@ -7,12 +7,12 @@ use Rattle.ir_tree.specs.declared.node.Operand.{Operand}
 use Rattle.ir_tree.specs.declared.node.Operand.TheVariants as operand
 use Rattle.ir_tree.specs.declared.node.Node.{Node}
 use Rattle.ir_tree.specs.NodeTypes.Types.{marks_of}
-use Rattle.ir_verify.specs.Lines.{is_literal_of}
+use Rattle.ir_tree.specs.Rules.Lines.{is_literal_of}
 use Rattle.ir_rebuild.specs.Built.{FitsAt, AreBuilt, Rewrites, is_plain_op, numbered}
 use Rattle.ir_rebuild.proofs.Lemmas.{appended, values_before}
 use Rattle.ir_tree.specs.Types.{ty_of}
 use Rattle.ir_tree.specs.Constants.{constant_value}
-use Rattle.ir_verify.specs.Lines.{is_value_of}
+use Rattle.ir_tree.specs.Rules.Lines.{is_value_of}
 use Rattle.pass_fold.specs.Constants.{constant_of}
 use Rattle.pass_fold.specs.Folds.{is_foldable, folded_value}
 use Rattle.pass_fold.specs.Settled.{IsFolded, IsAppended, literal_node, settled_node}

@@ -22,11 +22,11 @@ use Rattle.ir_tree.specs.Constants.{no_value}
 use Rattle.ir_tree.specs.Types.{ty_of}
 use Rattle.ir_tree.specs.NodeValues.{Setting, pure_value, role_of, role_by, role_value}
 use Rattle.ir_tree.specs.NodeTypes.Types.{marks_of}
-use Rattle.ir_verify.specs.Fitting.{Types, type_in, type_or, types_behind, types_fit, node_fits}
-use Rattle.ir_verify.specs.Lines.{is_literal_of}
-use Rattle.ir_verify.proofs.Lemmas.Typed.Tests.{limited}
-use Rattle.ir_verify.proofs.Lemmas.Typed.Scopes.{IsTyped, AreTyped, none_typed, token_value, operands_typed}
-use Rattle.ir_verify.proofs.Lemmas.Typed.Nodes.{HasChannel, HasNoFault, node_typed}
+use Rattle.ir_tree.specs.Rules.Fitting.{Types, type_in, type_or, types_behind, types_fit, node_fits}
+use Rattle.ir_tree.specs.Rules.Lines.{is_literal_of}
+use Rattle.ir_tree.proofs.Lemmas.Rules.Typed.Tests.{limited}
+use Rattle.ir_tree.proofs.Lemmas.Rules.Typed.Scopes.{IsTyped, AreTyped, none_typed, token_value, operands_typed}
+use Rattle.ir_tree.proofs.Lemmas.Rules.Typed.Nodes.{HasChannel, HasNoFault, node_typed}
 use Rattle.ir_rebuild.specs.Operands.{node_of, attribute_operands}
 use Rattle.ir_rebuild.specs.Moves.{moved, moved_attributes, moved_node}
 use Rattle.ir_rebuild.specs.Built.{FitsAt, AreBuilt, is_plain_op}

@@ -16,7 +16,7 @@ use Rattle.ir_tree.specs.declared.node.Attributes.TheVariants as attributes
 use Rattle.ir_tree.specs.Constants.{no_value}
 use Rattle.ir_tree.specs.Operations.{plain_value, on_word, on_words, on_tuple, of_one, of_two, slice_value, dyn_slice_value, longer_value, element_at, index_value}
 use Rattle.ir_tree.specs.NodeValues.{operand_value, pure_value}
-use Rattle.ir_verify.specs.Fitting.{types_behind, types_fit}
+use Rattle.ir_tree.specs.Rules.Fitting.{types_behind, types_fit}
 use Rattle.ir_rebuild.specs.Built.{AreBuilt, AreValues, is_plain_op}
 use Rattle.ir_rebuild.specs.Normal.Patterns as normal
 use Rattle.ir_rebuild.proofs.Lemmas.Normal.{op_is_literal, constant_there}

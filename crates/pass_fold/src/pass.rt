@@ -1,7 +1,7 @@
 ghost use Rattle.std.specs.Prelude.{◌≡◌, true, length, IfOk};
 ghost use Rattle.ir_tree.specs.declared.ir_type.IrType.{IrType};
 ghost use Rattle.ir_tree.specs.SameBehavior.{SameBehavior};
-ghost use Rattle.ir_verify.specs.Verified.{IsVerified};
+ghost use Rattle.ir_tree.specs.Rules.Verified.{IsVerified};
 ghost use Rattle.ir_rebuild.specs.Built.{AreBuilt, FitsAt, Rewrites, is_plain_op};
 ghost use Rattle.ir_rebuild.specs.Kept.{AreAllKept};
 ghost use Rattle.ir_rebuild.specs.Walks.{EachProcRebuildsTo, SameHead};

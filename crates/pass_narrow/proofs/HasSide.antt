@@ -19,8 +19,8 @@ use Rattle.ir_tree.specs.declared.node.Node.{Node}
 use Rattle.ir_tree.specs.declared.node.Attributes.{Attributes}
 use Rattle.ir_tree.specs.declared.node.Attributes.TheVariants as attributes
 use Rattle.ir_tree.specs.NodeTypes.Types.{bits_width}
-use Rattle.ir_verify.specs.Fitting.{type_in, types_behind, types_fit, slice_fits, tuple_index_fits, is_bit_slice, is_tuple_index}
-use Rattle.ir_verify.proofs.Lemmas.Typed.Checked.{both_true}
+use Rattle.ir_tree.specs.Rules.Fitting.{type_in, types_behind, types_fit, slice_fits, tuple_index_fits, is_bit_slice, is_tuple_index}
+use Rattle.ir_tree.proofs.Lemmas.Rules.Typed.Checked.{both_true}
 use Rattle.ir_rebuild.specs.Built.{FitsAt, AreBuilt, is_plain_op}
 use Rattle.ir_rebuild.specs.Normal.Origins.{Origin, origin}
 use Rattle.ir_rebuild.specs.Normal.Patterns as left

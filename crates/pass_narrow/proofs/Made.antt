@@ -31,19 +31,19 @@ use Rattle.ir_tree.specs.Constants.{constant_value, read_step, number_read}
 use Rattle.ir_tree.specs.Operations.{binary_word, binary_value, compare_value, holds, bit, extend_word, extend_value, slice_value, on_word, on_words}
 use Rattle.ir_tree.specs.NodeValues.{operand_value}
 use Rattle.ir_tree.specs.declared.node_types.types.Marks.{Marks}
-use Rattle.ir_verify.specs.Checks as checks
-use Rattle.ir_verify.specs.Checks.{limit_at}
+use Rattle.ir_tree.specs.Rules.Checks as checks
+use Rattle.ir_tree.specs.Rules.Checks.{limit_at}
 use Rattle.ir_tree.specs.NodeTypes.Constants.{constant_fits, number_fits}
 use Rattle.ir_tree.specs.NodeTypes.Types.{marks_of, widths_in, widths_step, levels_of, levels_step, passes, bits_there, is_bits_of, is_bits_where}
-use Rattle.ir_verify.specs.Fitting.{type_in, types_behind, all_bits_of, node_fits}
-use Rattle.ir_verify.specs.Lines.{is_there, are_there, attributes_there, is_literal_of, is_value_of, type_limits}
+use Rattle.ir_tree.specs.Rules.Fitting.{type_in, types_behind, all_bits_of, node_fits}
+use Rattle.ir_tree.specs.Rules.Lines.{is_there, are_there, attributes_there, is_literal_of, is_value_of, type_limits}
 use Rattle.ir_tree.proofs.Lemmas.NodeTypes.IrTypes.{fold-Bits, ty_of-Bits}
 use Rattle.ir_tree.proofs.Lemmas.NodeTypes.ConstantCases as cases
-use Rattle.ir_verify.specs.Typed.Typed.{none_broken}
-use Rattle.ir_verify.proofs.Lemmas.Typed.Checked.{and_true}
-use Rattle.ir_verify.proofs.Lemmas.Typed.Tests.{IsSound, marks-Bits}
-use Rattle.ir_verify.proofs.Lemmas.Typed.Scopes as scopes
-use Rattle.ir_verify.proofs.Lemmas.Typed.Scopes.{on_word-Bits, on_words-Bits}
+use Rattle.ir_tree.specs.Rules.Typed.Typed.{none_broken}
+use Rattle.ir_tree.proofs.Lemmas.Rules.Typed.Checked.{and_true}
+use Rattle.ir_tree.proofs.Lemmas.Rules.Typed.Tests.{IsSound, marks-Bits}
+use Rattle.ir_tree.proofs.Lemmas.Rules.Typed.Scopes as scopes
+use Rattle.ir_tree.proofs.Lemmas.Rules.Typed.Scopes.{on_word-Bits, on_words-Bits}
 use Rattle.ir_rebuild.specs.Built.{FitsAt, AreBuilt}
 use Rattle.pass_narrow.specs.Numbers.{number, IsNumber}
 use Rattle.pass_narrow.specs.Nodes.{bits_node, extension_node, slice_node, operation_node, comparison_node, zero_node}

@@ -24,9 +24,9 @@ use Rattle.ir_tree.specs.declared.node.Node.{Node}
 use Rattle.ir_tree.specs.declared.node.Attributes.{Attributes}
 use Rattle.ir_tree.specs.declared.node.Attributes.TheVariants as attributes
 use Rattle.ir_tree.specs.NodeTypes.Types.{bits_width, width_there, is_tuple_where, passes, parts_there, each_same, same_type}
-use Rattle.ir_verify.specs.Fitting.{Types, type_in, type_or, types_behind, part_is, types_fit, plain_fits, slice_fits, dynamic_fits, extend_fits, sel_fits, tuple_index_fits, index_fits, predicate_fits, first_is_token, site_fits, is_bit_slice, is_dynamic_bit_slice, is_extend, is_sel, is_tuple_index, is_literal}
-use Rattle.ir_verify.proofs.Lemmas.Typed.Checked.{both_true}
-use Rattle.ir_verify.proofs.Lemmas.Typed.Tests.{types_same, tuple_is}
+use Rattle.ir_tree.specs.Rules.Fitting.{Types, type_in, type_or, types_behind, part_is, types_fit, plain_fits, slice_fits, dynamic_fits, extend_fits, sel_fits, tuple_index_fits, index_fits, predicate_fits, first_is_token, site_fits, is_bit_slice, is_dynamic_bit_slice, is_extend, is_sel, is_tuple_index, is_literal}
+use Rattle.ir_tree.proofs.Lemmas.Rules.Typed.Checked.{both_true}
+use Rattle.ir_tree.proofs.Lemmas.Rules.Typed.Tests.{types_same, tuple_is}
 use Rattle.ir_rebuild.specs.Built.{FitsAt, AreBuilt, is_plain_op}
 use Rattle.ir_rebuild.specs.Normal.Origins.{Origin, made_by, origin}
 use Rattle.ir_rebuild.specs.Normal.Patterns as left

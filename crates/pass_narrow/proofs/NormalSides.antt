@@ -16,9 +16,9 @@ use Rattle.ir_tree.specs.declared.node.Node.{Node}
 use Rattle.ir_tree.specs.declared.node.Attributes.{Attributes}
 use Rattle.ir_tree.specs.declared.node.Attributes.TheVariants as attributes
 use Rattle.ir_tree.specs.NodeTypes.Types.{bits_width}
-use Rattle.ir_verify.specs.Fitting.{type_in, types_behind}
-use Rattle.ir_verify.specs.Lines.{is_there}
-use Rattle.ir_verify.proofs.Lemmas.Typed.Checked.{and_true}
+use Rattle.ir_tree.specs.Rules.Fitting.{type_in, types_behind}
+use Rattle.ir_tree.specs.Rules.Lines.{is_there}
+use Rattle.ir_tree.proofs.Lemmas.Rules.Typed.Checked.{and_true}
 use Rattle.ir_rebuild.specs.Operands.{operands_in}
 use Rattle.ir_rebuild.specs.Built.{FitsAt, AreBuilt, Extends, is_plain_op, numbered}
 use Rattle.ir_rebuild.proofs.Lemmas.{node_there, before_more, last_there}

@@ -20,11 +20,11 @@ use Rattle.ir_tree.specs.Operations.{extend_value}
 use Rattle.ir_tree.specs.NodeValues.{operand_value, pure_value}
 use Rattle.ir_tree.specs.declared.node_types.types.Marks.{Marks}
 use Rattle.ir_tree.specs.NodeTypes.Types.{bits_width, width_there}
-use Rattle.ir_verify.specs.Fitting.{type_in, type_or, types_behind}
-use Rattle.ir_verify.specs.Lines.{is_there}
-use Rattle.ir_verify.proofs.Lemmas.Typed.Checked.{both_true, and_true}
-use Rattle.ir_verify.proofs.Lemmas.Typed.Tests.{IsSound, marks-Bits}
-use Rattle.ir_verify.proofs.Lemmas.Typed.Scopes.{word_there, bits_there, on_word-Bits}
+use Rattle.ir_tree.specs.Rules.Fitting.{type_in, type_or, types_behind}
+use Rattle.ir_tree.specs.Rules.Lines.{is_there}
+use Rattle.ir_tree.proofs.Lemmas.Rules.Typed.Checked.{both_true, and_true}
+use Rattle.ir_tree.proofs.Lemmas.Rules.Typed.Tests.{IsSound, marks-Bits}
+use Rattle.ir_tree.proofs.Lemmas.Rules.Typed.Scopes.{word_there, bits_there, on_word-Bits}
 use Rattle.ir_rebuild.specs.Built.{FitsAt, AreBuilt, AreValues, OperandSimulates, Extends, is_plain_op, numbered}
 use Rattle.ir_rebuild.proofs.Lemmas.{node_there, has_type, appended, values_before, there_more, type_more}
 use Rattle.pass_narrow.specs.Numbers.{number_there, number_of, number, IsNumber}

@@ -21,11 +21,11 @@ use Rattle.ir_tree.specs.Constants.{no_value}
 use Rattle.ir_tree.specs.Operations.{element_at}
 use Rattle.ir_tree.specs.NodeValues.{operand_value}
 use Rattle.ir_tree.specs.NodeTypes.Types.{bits_width, is_tuple_where, passes, parts_there, same_type, each_same}
-use Rattle.ir_verify.specs.Fitting.{type_in, type_or, types_behind, part_is, is_tuple_index, tuple_index_fits}
-use Rattle.ir_verify.specs.Lines.{is_there}
-use Rattle.ir_verify.proofs.Lemmas.Typed.Checked.{both_true}
-use Rattle.ir_verify.proofs.Lemmas.Typed.Tests.{same_is, types_same, tuple_is}
-use Rattle.ir_verify.proofs.Lemmas.Typed.Scopes.{on_tuple-Tuple}
+use Rattle.ir_tree.specs.Rules.Fitting.{type_in, type_or, types_behind, part_is, is_tuple_index, tuple_index_fits}
+use Rattle.ir_tree.specs.Rules.Lines.{is_there}
+use Rattle.ir_tree.proofs.Lemmas.Rules.Typed.Checked.{both_true}
+use Rattle.ir_tree.proofs.Lemmas.Rules.Typed.Tests.{same_is, types_same, tuple_is}
+use Rattle.ir_tree.proofs.Lemmas.Rules.Typed.Scopes.{on_tuple-Tuple}
 use Rattle.ir_rebuild.specs.Built.{FitsAt, AreBuilt, OperandSimulates, is_plain_op}
 use Rattle.ir_rebuild.proofs.Lemmas.{there_more}
 use Rattle.pass_narrow.specs.declared.node_pattern.NodeReplacement.{NodeReplacement}

@@ -13,7 +13,7 @@ use Rattle.delay_model.specs.declared.op.Extend.TheVariants as extend
 use Rattle.ir_tree.specs.declared.ir_type.IrType.{IrType}
 use Rattle.ir_tree.specs.declared.node.Operand.{Operand}
 use Rattle.ir_tree.specs.declared.node.Node.{Node}
-use Rattle.ir_verify.proofs.Lemmas.Typed.Tests.{nat_same}
+use Rattle.ir_tree.proofs.Lemmas.Rules.Typed.Tests.{nat_same}
 use Rattle.ir_rebuild.specs.Built.{AreBuilt, AreValues, OperandSimulates}
 use Rattle.pass_narrow.specs.declared.operands.Part.{Part}
 use Rattle.pass_narrow.specs.declared.node_pattern.NodeReplacement.{NodeReplacement}

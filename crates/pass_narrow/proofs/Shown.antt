@@ -20,10 +20,10 @@ use Rattle.ir_tree.specs.declared.node.Attributes.{Attributes}
 use Rattle.ir_tree.specs.declared.node.Attributes.TheVariants as attributes
 use Rattle.ir_tree.specs.NodeValues.{operand_value, pure_value}
 use Rattle.ir_tree.specs.NodeTypes.Types.{is_bits_of, is_bits_where}
-use Rattle.ir_verify.specs.Fitting.{type_in, type_or, types_behind, all_bits_of, is_bit_slice, slice_fits, types_fit, node_fits}
-use Rattle.ir_verify.specs.Lines.{is_there, are_there, is_literal_of}
-use Rattle.ir_verify.proofs.Lemmas.Typed.Checked.{both_true}
-use Rattle.ir_verify.proofs.Lemmas.Typed.Tests.{IsLimited, limited, limited_bits, bits_is, nat_same}
+use Rattle.ir_tree.specs.Rules.Fitting.{type_in, type_or, types_behind, all_bits_of, is_bit_slice, slice_fits, types_fit, node_fits}
+use Rattle.ir_tree.specs.Rules.Lines.{is_there, are_there, is_literal_of}
+use Rattle.ir_tree.proofs.Lemmas.Rules.Typed.Checked.{both_true}
+use Rattle.ir_tree.proofs.Lemmas.Rules.Typed.Tests.{IsLimited, limited, limited_bits, bits_is, nat_same}
 use Rattle.ir_rebuild.specs.Built.{FitsAt, AreBuilt, AreValues, is_plain_op}
 use Rattle.ir_rebuild.proofs.Lemmas.{there_more}
 use Rattle.pass_narrow.specs.Numbers.{number, IsNumber}

@@ -24,11 +24,11 @@ use Rattle.ir_tree.specs.declared.node.Attributes.TheVariants as attributes
 use Rattle.ir_tree.specs.Operations.{number_where}
 use Rattle.ir_tree.specs.NodeValues.{operand_value}
 use Rattle.ir_tree.specs.NodeTypes.Types.{is_bits, is_bits_where, bits_width}
-use Rattle.ir_verify.specs.Fitting.{type_in, types_behind, all_bits}
-use Rattle.ir_verify.specs.Lines.{is_there, are_there}
-use Rattle.ir_verify.proofs.Lemmas.Typed.Checked.{both_true, and_true}
-use Rattle.ir_verify.proofs.Lemmas.Typed.Tests.{nat_same}
-use Rattle.ir_verify.proofs.Lemmas.Typed.Scopes as scopes
+use Rattle.ir_tree.specs.Rules.Fitting.{type_in, types_behind, all_bits}
+use Rattle.ir_tree.specs.Rules.Lines.{is_there, are_there}
+use Rattle.ir_tree.proofs.Lemmas.Rules.Typed.Checked.{both_true, and_true}
+use Rattle.ir_tree.proofs.Lemmas.Rules.Typed.Tests.{nat_same}
+use Rattle.ir_tree.proofs.Lemmas.Rules.Typed.Scopes as scopes
 use Rattle.ir_rebuild.specs.Built.{FitsAt, AreBuilt, AreValues, is_plain_op}
 use Rattle.pass_narrow.specs.declared.operands.Part.{Part}
 use Rattle.pass_narrow.specs.Numbers.{number, IsNumber}

@@ -6,8 +6,8 @@ use Rattle.ir_tree.specs.declared.ir_type.IrType.{IrType, Bits}
 use Rattle.ir_tree.specs.declared.node.Operand.{Operand}
 use Rattle.ir_tree.specs.declared.node.Node.{Node}
 use Rattle.ir_tree.specs.NodeValues.{operand_value}
-use Rattle.ir_verify.specs.Fitting.{type_in, types_behind}
-use Rattle.ir_verify.specs.Lines.{is_there}
+use Rattle.ir_tree.specs.Rules.Fitting.{type_in, types_behind}
+use Rattle.ir_tree.specs.Rules.Lines.{is_there}
 
 abbrev pub number_there : Value-F Value → ℕ
 number_there (Value-F.Bits x) = x.value

@@ -27,11 +27,11 @@ use Rattle.ir_tree.specs.Constants.{no_value, bits_where, number_value, number_r
 use Rattle.ir_tree.specs.Operations.{chosen, on_word, on_open_word}
 use Rattle.ir_tree.specs.NodeValues.{operand_value, optional_value, pure_value}
 use Rattle.ir_tree.specs.NodeTypes.Types.{is_bits_where, same_type}
-use Rattle.ir_verify.specs.Fitting.{type_in, type_or, types_behind, types_fit, sel_fits, is_sel, is_like, cases_count, defaults}
-use Rattle.ir_verify.specs.Lines.{is_there, is_there_if, are_there, attributes_there}
+use Rattle.ir_tree.specs.Rules.Fitting.{type_in, type_or, types_behind, types_fit, sel_fits, is_sel, is_like, cases_count, defaults}
+use Rattle.ir_tree.specs.Rules.Lines.{is_there, is_there_if, are_there, attributes_there}
 use Rattle.ir_tree.proofs.Lemmas.NodeTypes.IrTypes.{ty_of-Bits}
-use Rattle.ir_verify.proofs.Lemmas.Typed.Tests.{bits_is, same_is}
-use Rattle.ir_verify.proofs.Lemmas.Typed.Scopes.{HasWord, word_there}
+use Rattle.ir_tree.proofs.Lemmas.Rules.Typed.Tests.{bits_is, same_is}
+use Rattle.ir_tree.proofs.Lemmas.Rules.Typed.Scopes.{HasWord, word_there}
 use Rattle.ir_rebuild.specs.Built.{FitsAt, AreBuilt, AreValues, OperandSimulates, Rewrites, is_plain_op}
 use Rattle.ir_rebuild.proofs.Lemmas.{answered, node_there, has_type}
 use Rattle.ir_rebuild.specs.Normal.Normal.{same_operand}

@@ -30,15 +30,15 @@ use Rattle.ir_tree.specs.declared.package.Channel.{Channel}
 use Rattle.ir_tree.specs.declared.package.Proc.{Proc}
 use Rattle.ir_tree.specs.NodeValues.{role_of}
 use Rattle.ir_tree.specs.Types.{ty_of, arrays_of, bounded}
-use Rattle.ir_verify.specs.Checks.{Check, limit_at}
-use Rattle.ir_verify.specs.Fitting.{types_behind, node_fits}
-use Rattle.ir_verify.specs.Lines.{Seen, see, type_limits, is_proc_named, is_state, is_there, is_there_if, are_there, attributes_there, is_id_after, is_named, is_chained, is_at_end, is_typed, own_levels, node_checks}
+use Rattle.ir_tree.specs.Rules.Checks.{Check, limit_at}
+use Rattle.ir_tree.specs.Rules.Fitting.{types_behind, node_fits}
+use Rattle.ir_tree.specs.Rules.Lines.{Seen, see, type_limits, is_proc_named, is_state, is_there, is_there_if, are_there, attributes_there, is_id_after, is_named, is_chained, is_at_end, is_typed, own_levels, node_checks}
 use Rattle.ir_tree.specs.NodeTypes.Types.{widths_in, widths_step, joined_lists, levels_of}
-use Rattle.ir_verify.specs.Verified.{nodes_checks}
+use Rattle.ir_tree.specs.Rules.Verified.{nodes_checks}
 use Rattle.ir_tree.proofs.Lemmas.NodeTypes.IrTypes.{fold-Bits, fold-Tuple, ty_of-Bits, ty_of-Token, ty_of-Tuple}
 use Rattle.std.specs.Prelude.{get_or}
-use Rattle.ir_verify.specs.Typed.Typed.{none_broken, IsVerifiedProc}
-use Rattle.ir_verify.proofs.Lemmas.Typed.{verified_proc}
+use Rattle.ir_tree.specs.Rules.Typed.Typed.{none_broken, IsVerifiedProc}
+use Rattle.ir_tree.proofs.Lemmas.Rules.Typed.{verified_proc}
 use Rattle.pipe_schedule.specs.Timed.{TimedNode, node_at, timed_node, timed_nodes, nodes_among, operands_in, if_there, sources_of, node_type_or, operand_type, first_type, type_timed_by, node_delay, IsOfVerified}
 use Rattle.pipe_schedule.specs.Inner.Delays.{type_width, delay_within, timed_node_within}
 use Rattle.pipe_schedule.specs.Inner.Slots.{AreSourcesEarlier}

@@ -1,7 +1,7 @@
 //! The schedules of all procs of a package.
 
 ghost use Rattle.std.specs.Prelude.{◌≡◌, ◌≤◌, IfOk, IfErr, OnOk};
-ghost use Rattle.ir_verify.specs.Verified.{IsVerified};
+ghost use Rattle.ir_tree.specs.Rules.Verified.{IsVerified};
 ghost use Rattle.pipe_schedule.specs.Timed.{IsOfVerified, timed_proc};
 ghost use Rattle.pipe_schedule.specs.Answer.{IsCause};
 ghost use Rattle.pipe_schedule.specs.Packages.{AreSchedules, IsFirstInfeasible};

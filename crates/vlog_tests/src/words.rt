@@ -2,10 +2,10 @@
 
 use std::alloc::Global;
 use std::test::Fail;
-use vlog_token::rules::kind::{
+use vlog_text::token::rules::kind::{
     AMP, ASHR, ASSIGN, CLK, EQUALS, LBRACKET, LE, LITERAL, LT, NAME, NE, NUMBER, SHL, SIGNED, ZERO,
 };
-use vlog_token::{Token, tokens};
+use vlog_text::token::{Token, tokens};
 use xb_span::ReadError;
 
 /// The tokens of a short text.

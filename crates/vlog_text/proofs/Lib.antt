@@ -10,3 +10,5 @@ pub mod OnRoundTrip
 pub mod OnSpans
 -- building the module of a text of the Verilog subset, from the bottom up
 pub mod OnBuilder
+-- the tokens of a text of the Verilog subset
+pub mod OnToken

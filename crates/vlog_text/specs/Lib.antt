@@ -8,3 +8,5 @@ pub mod Reader
 pub mod RoundTrip
 -- building the module of a text of the Verilog subset, from the bottom up
 pub mod Builder
+-- the tokens of a text of the Verilog subset
+pub mod Token

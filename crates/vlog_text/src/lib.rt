@@ -1,4 +1,4 @@
-//! Verilog texts: their printer, their reader, and that what is printed reads back.
+//! Verilog texts: their tokens, their printer, their reader, and that what is printed reads back.
 #![tactic(auto)]
 
 pub mod builder;
@@ -6,3 +6,4 @@ pub mod parser;
 pub mod printer;
 pub mod reader;
 pub mod round_trip;
+pub mod token;

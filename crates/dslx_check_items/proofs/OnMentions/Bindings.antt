@@ -1,9 +1,9 @@
 -- Names that are bound from the last one on.
 use Rattle.std.proofs.Common.{◌≡◌, ◌≢◌, ◌+◌, ◌-◌, ◌≤◌, ℕ, false, List, [], ◌∷◌, drop, get_or, length, map, refl, sym, ap, ◌∙◌}
 use Rattle.std.specs.Prelude.{flat_map}
-use Rattle.dslx_names.specs.Called.{kind_of}
-use Rattle.dslx_names.specs.declared.callee.Callee.{Callee}
-use Rattle.dslx_names.specs.declared.callee.Callee.TheVariants as callee
+use Rattle.dslx_meaning.specs.Names.Called.{kind_of}
+use Rattle.dslx_meaning.specs.declared.names.callee.Callee.{Callee}
+use Rattle.dslx_meaning.specs.declared.names.callee.Callee.TheVariants as callee
 use Rattle.dslx_meaning.specs.Callees.{is_text_function}
 use Rattle.dslx_check_items.specs.Inner.Walks.{MentionWalk, binding}
 use Rattle.dslx_check_items.proofs.OnMentions.InTurn.{bound_more, bound_none}

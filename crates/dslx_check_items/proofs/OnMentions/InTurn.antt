@@ -4,8 +4,8 @@ use Rattle.std.proofs.lemmas.List.{append_assoc, append-nil}
 use Rattle.dslx_meaning.specs.Callees.{is_text_function, kind_of_call}
 use Rattle.dslx_meaning.specs.Lists.{is_in}
 use Rattle.dslx_meaning.specs.Rules.Mentions.{Use, AsFunction, Mentions, NamesBound, all_mentions, mention, mentions_if, nowhere, statements_mentions, value_mention}
-use Rattle.dslx_names.specs.FirstNames.{first_names}
-use Rattle.dslx_names.proofs.Lemmas.FirstNames.{back_to}
+use Rattle.dslx_meaning.specs.Names.FirstNames.{first_names}
+use Rattle.dslx_meaning.proofs.Lemmas.Names.FirstNames.{back_to}
 use Rattle.dslx_check_items.specs.Inner.Walks.{MentionWalk, behind, binding, calling, keeping, mentioning, mentioning_all, mentioning_if, naming, running, valuing}
 
 pub nothing : (w : MentionWalk) → w ≡ mentioning nowhere w

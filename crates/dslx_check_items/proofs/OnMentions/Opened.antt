@@ -22,7 +22,7 @@ use Rattle.dslx_meaning.specs.Activation.{NodeLayer, StmtLayer, node_of}
 use Rattle.dslx_meaning.specs.Callees.{is_text_function, kind_of_call}
 use Rattle.dslx_meaning.specs.Rules.Mentions as k
 use Rattle.dslx_meaning.specs.Rules.Mentions.{AsEnum, AsFunction, AsPattern, AsStruct, AsType, Mentions, NamesBound, all_mentions, binders_mentions, bound_behind, mention, mentioned, mentioned_in_arg, mentioned_in_block, mentioned_in_type, mentions_if, statements_mentions, value_mention}
-use Rattle.dslx_names.specs.ConstMachine.Layers.{PatternLayer, TypeLayer, shape_of, type_of}
+use Rattle.dslx_meaning.specs.Names.ConstMachine.Layers.{PatternLayer, TypeLayer, shape_of, type_of}
 use Rattle.dslx_check_items.specs.Inner.Walks.{MentionWalk, behind, binding, keeping, mentioning, mentioning_all, mentioning_if, running}
 use Rattle.dslx_check_items.specs.Inner.Parts.{in_arm, in_field, in_loop, in_pattern, in_stmt, number_mentions, pattern_mentions, pattern_names, shape_names}
 use Rattle.dslx_check_items.specs.Inner.Levels.{arm_walk, block_walk, bounds_walk, field_walk, let_walk, loop_walk, node_walk, shape_walk, stmt_walk, type_walk}

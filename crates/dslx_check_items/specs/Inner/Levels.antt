@@ -9,7 +9,7 @@ use Rattle.dslx_tree.specs.declared.expr.Expr.{Expr}
 use Rattle.dslx_tree.specs.declared.expr.For.{For, out-For}
 use Rattle.dslx_meaning.specs.Activation.{NodeLayer, StmtLayer}
 use Rattle.dslx_meaning.specs.Rules.Mentions.{AsEnum, AsPattern, AsStruct, AsType, bound_behind, mentioned, mentioned_in_arg, mentioned_in_block, mentioned_in_type}
-use Rattle.dslx_names.specs.ConstMachine.Layers.{PatternLayer, TypeLayer}
+use Rattle.dslx_meaning.specs.Names.ConstMachine.Layers.{PatternLayer, TypeLayer}
 use Rattle.dslx_check_items.specs.Inner.Walks.{MentionWalk, binding, calling, keeping, mentioning, mentioning_all, mentioning_if, naming, running, valuing}
 use Rattle.dslx_check_items.specs.Inner.Parts.{in_arm, in_field, in_loop, in_pattern, in_stmt, number_mentions, pattern_mentions, pattern_names}
 

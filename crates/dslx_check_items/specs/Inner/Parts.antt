@@ -9,7 +9,7 @@ use Rattle.dslx_tree.specs.declared.expr.Number.{Number, fold-Number}
 use Rattle.dslx_tree.specs.declared.pattern.Pattern.{Pattern, fold-Pattern}
 use Rattle.dslx_meaning.specs.Rules.Mentions as k
 use Rattle.dslx_meaning.specs.Rules.Mentions.{Mentions, NamesBound, mentioned, mentioned_in_type, mentions_if}
-use Rattle.dslx_names.specs.ConstMachine.Layers.{PatternLayer}
+use Rattle.dslx_meaning.specs.Names.ConstMachine.Layers.{PatternLayer}
 
 -- what a pattern mentions, and the names that it binds
 abbrev pub in_pattern : Pattern → NamesBound

@@ -3,7 +3,7 @@ use Rattle.std.specs.Prelude.{ℕ, List, [], ◌∷◌, ◌++◌, Option, Some, 
 use Rattle.dslx_meaning.specs.Lists.{is_in}
 use Rattle.dslx_meaning.specs.Callees.{is_text_function, kind_of_call}
 use Rattle.dslx_meaning.specs.Rules.Mentions.{Use, AsFunction, AsValue, Mention, Mentions, NamesBound, mention}
-use Rattle.dslx_names.specs.FirstNames.{first_names}
+use Rattle.dslx_meaning.specs.Names.FirstNames.{first_names}
 
 -- what is mentioned so far, and what is bound there, the last name first
 pub record MentionWalk : Type 0 where

@@ -24,11 +24,11 @@ use Rattle.dslx_check_facts.specs.Known.{item_names}
 use Rattle.dslx_check_facts.specs.TypeEnvs.{HasBoundRows, typed_of}
 use Rattle.dslx_check_facts.specs.Walks.{WalkShown}
 use Rattle.dslx_check_facts.proofs.Lemmas.Judged.{row_stays_if}
-use Rattle.dslx_check_control.specs.declared.control.StatementTyping.{StatementTyping}
-use Rattle.dslx_check_control.specs.declared.patterns.PatternTyping.{PatternTyping}
-use Rattle.dslx_check_control.specs.Control.{FromLet}
-use Rattle.dslx_check_nodes.specs.Parts.{FromOne, IsPart, IsPartIf}
-use Rattle.dslx_check_fits.specs.Typed.{PatternFrom}
+use Rattle.dslx_check_rules.specs.declared.control.control.StatementTyping.{StatementTyping}
+use Rattle.dslx_check_rules.specs.declared.control.patterns.PatternTyping.{PatternTyping}
+use Rattle.dslx_check_rules.specs.Control.Control.{FromLet}
+use Rattle.dslx_check_rules.specs.Nodes.Parts.{FromOne, IsPart, IsPartIf}
+use Rattle.dslx_check_leaves.specs.Fits.Typed.{PatternFrom}
 use Rattle.dslx_check_leaves.specs.Typed.{bare_half}
 use Rattle.dslx_check_leaves.specs.Walked.{BindsAs, PatternNames, HasBound, IsBehind, Moved, WalksTo, TypesPart, TypesOne, TypesPattern, TypesStatements, used_now}
 use Rattle.dslx_check_leaves.proofs.Lemmas.Walking.{Both, both, no_token_reached, part_stays, reached_both}

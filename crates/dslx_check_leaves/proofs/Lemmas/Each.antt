@@ -10,12 +10,12 @@ use Rattle.dslx_check_facts.specs.declared.facts.Facts.{Facts}
 use Rattle.dslx_check_facts.specs.declared.type_env.TypeEnv.{TypeEnv as CodeEnv}
 use Rattle.dslx_check_facts.specs.Walks.{WalkShown}
 use Rattle.dslx_check_rules.specs.declared.typing.Typing.{Typing}
-use Rattle.dslx_check_nodes.specs.declared.arrays.Element.{Element}
-use Rattle.dslx_check_nodes.specs.declared.arrays.Element.TheVariants as element
-use Rattle.dslx_check_nodes.specs.declared.parts.Spanned.{Spanned}
-use Rattle.dslx_check_nodes.specs.Parts.{Pairs, FromAll, IsPlaced, Placed}
-use Rattle.dslx_check_nodes.specs.Nodes.Arrays.{ElementSeen, FromElements, IsElement, Untyped, Value, element_seen}
-use Rattle.dslx_check_nodes.specs.Nodes.Lists.{element_of}
+use Rattle.dslx_check_rules.specs.declared.nodes.arrays.Element.{Element}
+use Rattle.dslx_check_rules.specs.declared.nodes.arrays.Element.TheVariants as element
+use Rattle.dslx_check_rules.specs.declared.nodes.parts.Spanned.{Spanned}
+use Rattle.dslx_check_rules.specs.Nodes.Parts.{Pairs, FromAll, IsPlaced, Placed}
+use Rattle.dslx_check_rules.specs.Nodes.Nodes.Arrays.{ElementSeen, FromElements, IsElement, Untyped, Value, element_seen}
+use Rattle.dslx_check_rules.specs.Nodes.Nodes.Lists.{element_of}
 use Rattle.dslx_check_leaves.specs.Walked.{WalksTo, TypesPart, TypesOne, TypesEach, all_reached, element_reached, reached_there}
 use Rattle.dslx_check_leaves.proofs.Lemmas.Walking.{AddsTypes, Both, both, halved, nothing_reached, part_stays, reached_both, same_types, with_rows}
 

@@ -19,16 +19,16 @@ use Rattle.dslx_meaning.specs.Rules.ControlRules.{annotation_reached, written_ty
 use Rattle.dslx_meaning.specs.Meaning.{denotation}
 use Rattle.dslx_meaning.specs.declared.value.UntypedLiteral.{UntypedLiteral}
 use Rattle.dslx_meaning.specs.Rules.ConstantRules.{ConstantSeen, constant_of, constant_or_untyped, untyped_typing}
-use Rattle.dslx_check_nodes.specs.Nodes.Aggregates.{untyped_number, number_of}
+use Rattle.dslx_check_rules.specs.Nodes.Nodes.Aggregates.{untyped_number, number_of}
 use Rattle.dslx_check_rules.specs.declared.typing.Typing.{Typing}
 use Rattle.dslx_check_facts.specs.declared.facts.Facts.{Facts}
 use Rattle.dslx_check_facts.specs.declared.type_env.TypeEnv.{TypeEnv as CodeEnv}
 use Rattle.dslx_check_facts.specs.Walks.{WalkShown}
-use Rattle.dslx_check_constants.specs.Constants.{expr_typed, untyped_found}
-use Rattle.dslx_check_fits.specs.Typed.{number_at, type_typed}
-use Rattle.dslx_check_fits.proofs.Lemmas.Levels.{number_level, own, pairs, steps, typed}
+use Rattle.dslx_check_leaves.specs.Named.Constants.{expr_typed, untyped_found}
+use Rattle.dslx_check_leaves.specs.Fits.Typed.{number_at, type_typed}
+use Rattle.dslx_check_leaves.proofs.Lemmas.Fits.Levels.{number_level, own, pairs, steps, typed}
 use Rattle.dslx_check_leaves.specs.Walked.{WalksTo, TypesPart, TypesOne}
-use Rattle.dslx_check_nodes.specs.Parts.{IsPartIf}
+use Rattle.dslx_check_rules.specs.Nodes.Parts.{IsPartIf}
 use Rattle.dslx_check_leaves.proofs.Lemmas.Walking.{halved, nothing_reached, same_types}
 use Rattle.dslx_check_leaves.specs.Typed.{number_node_at}
 

@@ -18,13 +18,13 @@ use Rattle.dslx_check_facts.specs.Judged.{environment}
 use Rattle.dslx_check_facts.specs.Known.{item_names}
 use Rattle.dslx_check_facts.specs.TypeEnvs.{typed_of}
 use Rattle.dslx_check_facts.specs.Walks.{WalkShown, instances_at}
-use Rattle.dslx_check_nodes.specs.declared.parts.ConstantTyping.{ConstantTyping}
-use Rattle.dslx_check_nodes.specs.Parts.{IsConstant, IsPart, IsPartIf}
-use Rattle.dslx_check_control.specs.declared.control.LoopParts.{LoopParts}
-use Rattle.dslx_check_control.specs.declared.patterns.PatternTyping.{PatternTyping}
-use Rattle.dslx_check_control.specs.Control.{FromLoop}
-use Rattle.dslx_check_control.specs.Patterns.{IsPattern}
-use Rattle.dslx_check_fits.specs.Typed.{PatternFrom}
+use Rattle.dslx_check_rules.specs.declared.nodes.parts.ConstantTyping.{ConstantTyping}
+use Rattle.dslx_check_rules.specs.Nodes.Parts.{IsConstant, IsPart, IsPartIf}
+use Rattle.dslx_check_rules.specs.declared.control.control.LoopParts.{LoopParts}
+use Rattle.dslx_check_rules.specs.declared.control.patterns.PatternTyping.{PatternTyping}
+use Rattle.dslx_check_rules.specs.Control.Control.{FromLoop}
+use Rattle.dslx_check_rules.specs.Control.Patterns.{IsPattern}
+use Rattle.dslx_check_leaves.specs.Fits.Typed.{PatternFrom}
 use Rattle.dslx_check_leaves.specs.Walked.{BindsAs, PatternNames, MoveClaim, Moved, WalksTo, TypesPart, TypesConstant, TypesOne, TypesPattern}
 use Rattle.dslx_check_leaves.proofs.Lemmas.Walking.{AddsTypes, Both, both, constant_stays, halved, part_stays, reached_both, same_types, with_rows}
 use Rattle.dslx_check_leaves.proofs.Lemmas.Moving.{ThenWalk, moved_more, moves, restored, then_walk}

@@ -19,9 +19,9 @@ use Rattle.dslx_check_facts.specs.TypeEnvs.{HasBoundRows}
 use Rattle.dslx_check_facts.specs.Walks.{WalkShown, HasTables, instances_at}
 use Rattle.dslx_check_facts.proofs.Lemmas.Walks.{grows_refl, grows_trans, nothing_missing, tables_trans}
 use Rattle.dslx_check_facts.proofs.Lemmas.Judged.{known_rows_stay, rows_stay}
-use Rattle.dslx_check_control.specs.declared.control.StatementTyping.{StatementTyping}
-use Rattle.dslx_check_control.specs.Control.{FromBlock, IsStatement, block_of, both_statements, no_statement, no_value}
-use Rattle.dslx_check_constants.specs.Constants.{expr_typed}
+use Rattle.dslx_check_rules.specs.declared.control.control.StatementTyping.{StatementTyping}
+use Rattle.dslx_check_rules.specs.Control.Control.{FromBlock, IsStatement, block_of, both_statements, no_statement, no_value}
+use Rattle.dslx_check_leaves.specs.Named.Constants.{expr_typed}
 use Rattle.dslx_check_leaves.specs.Typed.{stmt_typed}
 use Rattle.dslx_check_leaves.specs.Walked.{PatternNames, Claim, IsBehind, MoveClaim, Moved, WalksTo, TypesPart, TypesStatements}
 use Rattle.dslx_check_leaves.proofs.Lemmas.Each.{take_all, take_next}

@@ -25,14 +25,14 @@ use Rattle.dslx_check_facts.specs.TypeEnvs.{typed_of}
 use Rattle.dslx_check_facts.specs.Walks.{WalkShown, instances_at}
 use Rattle.dslx_check_facts.proofs.Lemmas.Walks.{grows_trans, nothing_missing, tables_trans}
 use Rattle.dslx_check_facts.proofs.Lemmas.Judged.{row_stays_if, rows_stay}
-use Rattle.dslx_check_control.specs.declared.matches.AlternativesTyping.{AlternativesTyping}
-use Rattle.dslx_check_control.specs.declared.matches.ArmTyping.{ArmTyping}
-use Rattle.dslx_check_control.specs.declared.patterns.PatternTyping.{PatternTyping}
-use Rattle.dslx_check_control.specs.Matches.{AreArms, IsAlternatives, IsArm, alternative_behind}
-use Rattle.dslx_check_nodes.specs.Parts.{IsPart}
-use Rattle.dslx_check_control.specs.Patterns.{IsPattern}
-use Rattle.dslx_check_fits.specs.Typed.{arm_typed, match_half, pattern_typed}
-use Rattle.dslx_check_fits.specs.Matched.{MatchFrom, arms_at}
+use Rattle.dslx_check_rules.specs.declared.control.matches.AlternativesTyping.{AlternativesTyping}
+use Rattle.dslx_check_rules.specs.declared.control.matches.ArmTyping.{ArmTyping}
+use Rattle.dslx_check_rules.specs.declared.control.patterns.PatternTyping.{PatternTyping}
+use Rattle.dslx_check_rules.specs.Control.Matches.{AreArms, IsAlternatives, IsArm, alternative_behind}
+use Rattle.dslx_check_rules.specs.Nodes.Parts.{IsPart}
+use Rattle.dslx_check_rules.specs.Control.Patterns.{IsPattern}
+use Rattle.dslx_check_leaves.specs.Fits.Typed.{arm_typed, match_half, pattern_typed}
+use Rattle.dslx_check_leaves.specs.Fits.Matched.{MatchFrom, arms_at}
 use Rattle.dslx_check_leaves.specs.Walked.{BindsAs, PatternNames, HasBound, JudgedAlternatives, WalksTo, TypesPart, TypesAlternatives, TypesArm, TypesArms, TypesPattern, all_bound, all_reached, arm_reached}
 use Rattle.dslx_check_leaves.proofs.Lemmas.Walking.{Both, behind_both, both, halved, nothing_reached, part_stays, reached_both, same_types}
 use Rattle.dslx_check_leaves.proofs.Lemmas.Each.{append_nil, each_then, each_weaker, reached_then, take_all, take_next}

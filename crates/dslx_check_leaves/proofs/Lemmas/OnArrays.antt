@@ -16,17 +16,17 @@ use Rattle.dslx_meaning.specs.Rules.OperatorRules.{unless_type}
 use Rattle.dslx_meaning.specs.Rules.PatternRules.{is_there}
 use Rattle.dslx_meaning.specs.Rules.TypeRules.{inner_types}
 use Rattle.dslx_meaning.specs.Rules.RuleNumbers as rule
-use Rattle.dslx_check_nodes.specs.Nodes.Aggregates.{pair_or_no_token, taken_apart, tuple_element_of}
-use Rattle.dslx_check_nodes.specs.Nodes.Arrays.{IsElement, Untyped, Value, element_seen, tuple_of, typed_array_of, unlike, untyped_array_of}
-use Rattle.dslx_check_nodes.specs.Nodes.Lists.{element_of}
-use Rattle.dslx_check_nodes.specs.Nodes.Written.{tuple_type_of}
+use Rattle.dslx_check_rules.specs.Nodes.Nodes.Aggregates.{pair_or_no_token, taken_apart, tuple_element_of}
+use Rattle.dslx_check_rules.specs.Nodes.Nodes.Arrays.{IsElement, Untyped, Value, element_seen, tuple_of, typed_array_of, unlike, untyped_array_of}
+use Rattle.dslx_check_rules.specs.Nodes.Nodes.Lists.{element_of}
+use Rattle.dslx_check_rules.specs.Nodes.Nodes.Written.{tuple_type_of}
 use Rattle.dslx_check_rules.specs.declared.typing.Typing.{Typing}
 use Rattle.dslx_check_facts.specs.declared.facts.Facts.{Facts}
 use Rattle.dslx_check_facts.specs.declared.type_env.TypeEnv.{TypeEnv as CodeEnv}
 use Rattle.dslx_check_facts.specs.Walks.{WalkShown}
-use Rattle.dslx_check_nodes.specs.declared.arrays.Element.TheVariants as element
-use Rattle.dslx_check_constants.specs.Constants.{expr_typed}
-use Rattle.dslx_check_fits.specs.Typed.{type_typed}
+use Rattle.dslx_check_rules.specs.declared.nodes.arrays.Element.TheVariants as element
+use Rattle.dslx_check_leaves.specs.Named.Constants.{expr_typed}
+use Rattle.dslx_check_leaves.specs.Fits.Typed.{type_typed}
 use Rattle.dslx_check_leaves.specs.Walked.{WalksTo, TypesPart, TypesOne, element_reached}
 use Rattle.dslx_check_leaves.proofs.Lemmas.Walking.{halved, no_token_reached, nothing_reached, same_types}
 use Rattle.dslx_check_leaves.specs.Typed.{element_at, element_by, placed, placed_type, tuple_at}

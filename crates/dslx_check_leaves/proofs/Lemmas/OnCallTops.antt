@@ -10,8 +10,8 @@ use Rattle.dslx_meaning.specs.Callees.{CallKind, Calls, Receives, ReceivesIf, Se
 use Rattle.dslx_meaning.specs.Items.{as_function, item_named}
 use Rattle.dslx_meaning.specs.Rules.CallRules.{ParametricArgument, call_typing, function_call, only_on_top, wrong_effect}
 use Rattle.dslx_meaning.specs.Rules.TypeEnvs.{Judgement, TypeEnv, all_alone}
-use Rattle.dslx_check_constants.specs.Constants.{expr_typed}
-use Rattle.dslx_check_fits.proofs.Lemmas.Levels.{typed}
+use Rattle.dslx_check_leaves.specs.Named.Constants.{expr_typed}
+use Rattle.dslx_check_leaves.proofs.Lemmas.Fits.Levels.{typed}
 use Rattle.dslx_check_leaves.specs.Typed.{builtin_by, call_at}
 use Rattle.dslx_check_leaves.proofs.Lemmas.Levels.{expr_at}
 use Rattle.dslx_check_leaves.proofs.Lemmas.OnCalls.{args_are}

@@ -26,16 +26,16 @@ use Rattle.dslx_check_facts.specs.Judged.{environment}
 use Rattle.dslx_check_facts.specs.Known.{FactsHold, item_names}
 use Rattle.dslx_check_facts.specs.Walks.{WalkShown, instances_at}
 use Rattle.dslx_check_facts.proofs.Lemmas.Walks.{grows_refl}
-use Rattle.dslx_check_nodes.specs.declared.parts.Spanned.{Spanned}
-use Rattle.dslx_check_nodes.specs.Parts.{ArePlaced, IsPart, Placed, judgements}
-use Rattle.dslx_check_control.specs.declared.calls.ParametricArgument.{ParametricArgument as Given}
-use Rattle.dslx_check_constants.specs.Constants.{expr_typed}
-use Rattle.dslx_check_fits.proofs.Lemmas.Levels.{typed}
+use Rattle.dslx_check_rules.specs.declared.nodes.parts.Spanned.{Spanned}
+use Rattle.dslx_check_rules.specs.Nodes.Parts.{ArePlaced, IsPart, Placed, judgements}
+use Rattle.dslx_check_rules.specs.declared.control.calls.ParametricArgument.{ParametricArgument as Given}
+use Rattle.dslx_check_leaves.specs.Named.Constants.{expr_typed}
+use Rattle.dslx_check_leaves.proofs.Lemmas.Fits.Levels.{typed}
 use Rattle.dslx_check_leaves.proofs.Lemmas.Walking.{all_dropped}
-use Rattle.dslx_check_control.specs.Calls.{AreGiven, counting_of, misfits, updating_of}
-use Rattle.dslx_check_control.specs.Effects.{joining_of}
+use Rattle.dslx_check_rules.specs.Control.Calls.{AreGiven, counting_of, misfits, updating_of}
+use Rattle.dslx_check_rules.specs.Control.Effects.{joining_of}
 use Rattle.dslx_check_leaves.specs.Typed.{builtin_by, counting_at, function_at, given_at, placed, placed_token}
-use Rattle.dslx_check_calls.specs.Called.{CallFrom, call_by_parts, call_if}
+use Rattle.dslx_check_uses.specs.Called.{CallFrom, call_by_parts, call_if}
 use Rattle.dslx_check_leaves.specs.Walked.{all_reached, reached_there}
 use Rattle.dslx_check_leaves.proofs.Lemmas.Each.{append_nil}
 use Rattle.dslx_check_leaves.proofs.Lemmas.Scopes.{arg_level}

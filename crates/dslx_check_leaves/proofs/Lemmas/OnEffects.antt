@@ -23,15 +23,15 @@ use Rattle.dslx_check_facts.specs.TypeEnvs.{HasBoundRows, env_of}
 use Rattle.dslx_check_facts.specs.Walks.{WalkShown, instances_at}
 use Rattle.dslx_check_facts.proofs.Lemmas.Judged.{row_stays_if}
 use Rattle.dslx_check_facts.proofs.Lemmas.Walks.{grows_refl}
-use Rattle.dslx_check_nodes.specs.declared.parts.Spanned.{Spanned}
-use Rattle.dslx_check_nodes.specs.Parts.{ArePlaced, IsPart, IsPlaced, Placed, judgements}
-use Rattle.dslx_check_control.specs.declared.calls.ParametricArgument.{ParametricArgument}
-use Rattle.dslx_check_control.specs.declared.effects.ChannelTyping.{ChannelTyping}
-use Rattle.dslx_check_control.specs.Calls.{AreGiven, IsGiven, wrong_call_of}
-use Rattle.dslx_check_control.specs.Effects.{FromEffect, IsEffectChannel, effect_of}
+use Rattle.dslx_check_rules.specs.declared.nodes.parts.Spanned.{Spanned}
+use Rattle.dslx_check_rules.specs.Nodes.Parts.{ArePlaced, IsPart, IsPlaced, Placed, judgements}
+use Rattle.dslx_check_rules.specs.declared.control.calls.ParametricArgument.{ParametricArgument}
+use Rattle.dslx_check_rules.specs.declared.control.effects.ChannelTyping.{ChannelTyping}
+use Rattle.dslx_check_rules.specs.Control.Calls.{AreGiven, IsGiven, wrong_call_of}
+use Rattle.dslx_check_rules.specs.Control.Effects.{FromEffect, IsEffectChannel, effect_of}
 use Rattle.dslx_check_uses.specs.Ends.{channel_by_name}
 use Rattle.dslx_check_uses.specs.Inferring.{the_name}
-use Rattle.dslx_check_constants.specs.Constants.{expr_typed}
+use Rattle.dslx_check_leaves.specs.Named.Constants.{expr_typed}
 use Rattle.dslx_check_leaves.specs.Typed.{effect_at, fits_effect, given_at, placed, right_effect_at, wrong_operands_at}
 use Rattle.dslx_check_leaves.specs.Walked.{WalksTo, TypesPart, TypesChannel, TypesEach, TypesFaults, all_reached, given_reached, reached_there}
 use Rattle.dslx_check_leaves.proofs.Lemmas.Walking.{AddsTypes, Both, all_dropped, both, halved, part_stays, reached_both, same_types, with_rows}

@@ -37,10 +37,10 @@ use Rattle.dslx_check_facts.specs.Walks.{OnlyMisses, WalkShown, instances_at}
 use Rattle.dslx_check_facts.proofs.Lemmas.Items.{cyclic_is, means}
 use Rattle.dslx_check_facts.proofs.Lemmas.Judged.{row_stays_if, rows_stay, unlimited_leaf}
 use Rattle.dslx_check_facts.proofs.Lemmas.Walks.{grows_refl, grows_trans, misses_grows, misses_refl, nothing_missing, tables_trans}
-use Rattle.dslx_check_control.specs.declared.patterns.PatternTyping.{PatternTyping}
-use Rattle.dslx_check_control.specs.Patterns.{IsPattern}
-use Rattle.dslx_check_nodes.specs.Parts.{IsPart}
-use Rattle.dslx_check_fits.specs.Typed.{PatternFrom}
+use Rattle.dslx_check_rules.specs.declared.control.patterns.PatternTyping.{PatternTyping}
+use Rattle.dslx_check_rules.specs.Control.Patterns.{IsPattern}
+use Rattle.dslx_check_rules.specs.Nodes.Parts.{IsPart}
+use Rattle.dslx_check_leaves.specs.Fits.Typed.{PatternFrom}
 use Rattle.dslx_check_leaves.specs.Typed.{bool_pattern_at, constant_pattern_at, name_pattern_at}
 use Rattle.dslx_check_leaves.specs.Walked.{BindsAs, PatternNames, Claim, HasBound, WalksTo, TypesPart, TypesPattern}
 use Rattle.dslx_check_leaves.proofs.Lemmas.OnPatterns.{bound_stays, value_walked}

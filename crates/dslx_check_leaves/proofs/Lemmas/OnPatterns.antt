@@ -20,10 +20,10 @@ use Rattle.dslx_check_facts.specs.declared.type_env.TypeEnv.{TypeEnv as CodeEnv}
 use Rattle.dslx_check_facts.specs.TypeEnvs.{typed_of}
 use Rattle.dslx_check_facts.specs.Walks.{WalkShown}
 use Rattle.dslx_check_facts.proofs.Lemmas.Judged.{all_weaker, row_stays_if}
-use Rattle.dslx_check_control.specs.declared.patterns.PatternTyping.{PatternTyping}
-use Rattle.dslx_check_control.specs.Patterns.{IsPattern, part_of_so_many, tuple_head}
-use Rattle.dslx_check_nodes.specs.Parts.{IsPart}
-use Rattle.dslx_check_fits.specs.Typed.{PatternFrom, pattern_typed}
+use Rattle.dslx_check_rules.specs.declared.control.patterns.PatternTyping.{PatternTyping}
+use Rattle.dslx_check_rules.specs.Control.Patterns.{IsPattern, part_of_so_many, tuple_head}
+use Rattle.dslx_check_rules.specs.Nodes.Parts.{IsPart}
+use Rattle.dslx_check_leaves.specs.Fits.Typed.{PatternFrom, pattern_typed}
 use Rattle.dslx_check_leaves.specs.Typed.{tuple_pattern_at}
 use Rattle.dslx_check_leaves.specs.Walked.{BindsAs, PatternNames, HasBound, WalksTo, TypesPart, TypesPattern}
 use Rattle.dslx_check_leaves.proofs.Lemmas.Each.{take_all, take_next}

@@ -19,11 +19,11 @@ use Rattle.dslx_check_rules.specs.declared.typing.Typing.{Typing}
 use Rattle.dslx_check_facts.specs.declared.facts.Facts.{Facts}
 use Rattle.dslx_check_facts.specs.declared.type_env.TypeEnv.{TypeEnv as CodeEnv}
 use Rattle.dslx_check_facts.specs.Walks.{WalkShown}
-use Rattle.dslx_check_nodes.specs.declared.parts.Spanned.{Spanned}
-use Rattle.dslx_check_nodes.specs.Nodes.Lists.{fitted}
-use Rattle.dslx_check_nodes.specs.Nodes.Structs.{field_of, ident_of, others_of, unknown_idents, written_names}
-use Rattle.dslx_check_nodes.specs.Parts.{IsPlaced, IsPlacedIf, Placed}
-use Rattle.dslx_check_constants.specs.Constants.{expr_typed}
+use Rattle.dslx_check_rules.specs.declared.nodes.parts.Spanned.{Spanned}
+use Rattle.dslx_check_rules.specs.Nodes.Nodes.Lists.{fitted}
+use Rattle.dslx_check_rules.specs.Nodes.Nodes.Structs.{field_of, ident_of, others_of, unknown_idents, written_names}
+use Rattle.dslx_check_rules.specs.Nodes.Parts.{IsPlaced, IsPlacedIf, Placed}
+use Rattle.dslx_check_leaves.specs.Named.Constants.{expr_typed}
 use Rattle.dslx_check_leaves.specs.Typed.{field_typed, placed, placed_field, placed_value}
 use Rattle.dslx_check_uses.specs.Uses.{AreFieldValues, NodeFrom, struct_by, struct_half, unwanted, wanted_of}
 use Rattle.dslx_check_leaves.specs.Walked.{WalksTo, TypesPart, TypesEach, TypesOne, all_reached, reached_if, reached_there}

@@ -18,10 +18,10 @@ use Rattle.dslx_meaning.specs.Rules.TypeEnvs.{Judgement, TypeEnv}
 use Rattle.dslx_meaning.specs.Rules.Typings.{StatementSeen, StatementTyping}
 use Rattle.dslx_meaning.specs.Rules.ControlRules.{block_typing, last_typing, let_typing, statements_typing, stmt_typing}
 use Rattle.dslx_meaning.specs.Rules.NodeRules.{arm_seen, field_seen, second_of}
-use Rattle.dslx_check_control.specs.Control.{block_of}
-use Rattle.dslx_check_constants.specs.Constants.{expr_typed}
-use Rattle.dslx_check_fits.specs.Typed.{arm_typed}
-use Rattle.dslx_check_fits.proofs.Lemmas.Levels.{own, pairs, steps, typed}
+use Rattle.dslx_check_rules.specs.Control.Control.{block_of}
+use Rattle.dslx_check_leaves.specs.Named.Constants.{expr_typed}
+use Rattle.dslx_check_leaves.specs.Fits.Typed.{arm_typed}
+use Rattle.dslx_check_leaves.proofs.Lemmas.Fits.Levels.{own, pairs, steps, typed}
 use Rattle.dslx_check_leaves.specs.Typed.{bare_at, block_typed, field_typed, let_at, let_by, stmt_typed}
 
 -- ---- blocks

@@ -17,9 +17,9 @@ use Rattle.dslx_meaning.specs.Rules.AggregateRules.{array_typing, struct_typing,
 use Rattle.dslx_meaning.specs.Rules.ControlRules.{loop_typing, match_typing, written_typing}
 use Rattle.dslx_meaning.specs.Rules.TypeEnvs.{Judgement, TypeEnv}
 use Rattle.dslx_meaning.specs.Rules.Typings.{ArmSeen, FieldSeen}
-use Rattle.dslx_check_constants.specs.Constants.{expr_typed}
-use Rattle.dslx_check_fits.specs.Typed.{arm_typed, pattern_typed, type_typed}
-use Rattle.dslx_check_fits.proofs.Lemmas.Levels.{own, pairs, steps, typed}
+use Rattle.dslx_check_leaves.specs.Named.Constants.{expr_typed}
+use Rattle.dslx_check_leaves.specs.Fits.Typed.{arm_typed, pattern_typed, type_typed}
+use Rattle.dslx_check_leaves.proofs.Lemmas.Fits.Levels.{own, pairs, steps, typed}
 use Rattle.dslx_check_leaves.specs.Typed.{block_typed, field_typed, for_at}
 use Rattle.dslx_check_leaves.proofs.Lemmas.Levels.{expr_at}
 use Rattle.dslx_check_leaves.proofs.Lemmas.Scopes.{arms_are, fields_are}

@@ -23,10 +23,10 @@ use Rattle.dslx_check_facts.specs.Typings.{IsTyping}
 use Rattle.dslx_check_facts.specs.Walks.{WalkShown, HasTables, WalkGrows, OnlyMisses, instance_at, instances_at}
 use Rattle.dslx_check_facts.proofs.Lemmas.Walks.{grows_refl, grows_trans, misses_grows, nothing_missing, tables_trans}
 use Rattle.dslx_check_facts.proofs.Lemmas.Judged.{row_stays_if, rows_stay}
-use Rattle.dslx_check_nodes.specs.declared.parts.ConstantTyping.{ConstantTyping}
-use Rattle.dslx_check_nodes.specs.declared.parts.CountTyping.{CountTyping}
-use Rattle.dslx_check_nodes.specs.Parts.{IsPart, IsConstant, FromNone, FromOne, FromTwo, FromThree, FromCount, FromPartAndCount, CountFrom, FromSlice}
-use Rattle.dslx_check_constants.specs.Constants.{ConstantFrom}
+use Rattle.dslx_check_rules.specs.declared.nodes.parts.ConstantTyping.{ConstantTyping}
+use Rattle.dslx_check_rules.specs.declared.nodes.parts.CountTyping.{CountTyping}
+use Rattle.dslx_check_rules.specs.Nodes.Parts.{IsPart, IsConstant, FromNone, FromOne, FromTwo, FromThree, FromCount, FromPartAndCount, CountFrom, FromSlice}
+use Rattle.dslx_check_leaves.specs.Named.Constants.{ConstantFrom}
 use Rattle.dslx_check_leaves.specs.Walked.{Claim, WalksTo, TypesPart, TypesConstant, TypesCount}
 
 -- ---- lists

@@ -22,15 +22,15 @@ use Rattle.dslx_check_facts.specs.Known.{FactsHold, item_names}
 use Rattle.dslx_check_facts.specs.Walks.{WalkShown, instances_at}
 use Rattle.dslx_check_facts.proofs.Lemmas.Walks.{grows_trans, nothing_missing, tables_trans}
 use Rattle.dslx_check_facts.proofs.Lemmas.Judged.{rows_stay}
-use Rattle.dslx_check_nodes.specs.declared.parts.ConstantTyping.{ConstantTyping}
-use Rattle.dslx_check_nodes.specs.declared.parts.Spanned.{Spanned}
-use Rattle.dslx_check_nodes.specs.Parts.{IsPart, IsPlaced, IsPlacedIf, Placed, judgements}
-use Rattle.dslx_check_nodes.specs.Nodes.Structs.{FromField, field_part_of}
-use Rattle.dslx_check_control.specs.declared.calls.ParametricArgument.{ParametricArgument}
-use Rattle.dslx_check_control.specs.Calls.{AreGiven, IsGiven}
-use Rattle.dslx_check_constants.specs.Constants.{expr_typed}
+use Rattle.dslx_check_rules.specs.declared.nodes.parts.ConstantTyping.{ConstantTyping}
+use Rattle.dslx_check_rules.specs.declared.nodes.parts.Spanned.{Spanned}
+use Rattle.dslx_check_rules.specs.Nodes.Parts.{IsPart, IsPlaced, IsPlacedIf, Placed, judgements}
+use Rattle.dslx_check_rules.specs.Nodes.Nodes.Structs.{FromField, field_part_of}
+use Rattle.dslx_check_rules.specs.declared.control.calls.ParametricArgument.{ParametricArgument}
+use Rattle.dslx_check_rules.specs.Control.Calls.{AreGiven, IsGiven}
+use Rattle.dslx_check_leaves.specs.Named.Constants.{expr_typed}
 use Rattle.dslx_check_leaves.specs.Typed.{given_at, placed, placed_field, placed_value}
-use Rattle.dslx_check_calls.specs.Called.{CallFrom}
+use Rattle.dslx_check_uses.specs.Called.{CallFrom}
 use Rattle.dslx_check_uses.specs.Uses.{NodeFrom}
 use Rattle.dslx_check_leaves.specs.Walked.{Claim, WalksTo, TypesPart, TypesConstant, TypesEach, TypesOne, all_reached, given_reached, reached_if, reached_there}
 use Rattle.dslx_check_leaves.proofs.Lemmas.Walking.{Both, both, behind_both, constant_stays, halved, nothing_reached, reached_both, same_types}

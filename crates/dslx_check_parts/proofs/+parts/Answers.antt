@@ -12,9 +12,9 @@ use Rattle.dslx_tree.specs.declared.expr.For.{out-For}
 use Rattle.dslx_tree.specs.declared.type_expr.TypeExpr.{out-TypeExpr}
 use Rattle.dslx_tree.specs.declared.pattern.Pattern.{out-Pattern}
 use Rattle.dslx_check_facts.specs.Walks.{shown}
-use Rattle.dslx_check_constants.specs.Constants.{expr_typed}
-use Rattle.dslx_check_fits.specs.Typed.{arm_typed, pattern_typed, type_typed}
-use Rattle.dslx_check_fits.proofs.Lemmas.Levels.{pattern_at, pattern_number}
+use Rattle.dslx_check_leaves.specs.Named.Constants.{expr_typed}
+use Rattle.dslx_check_leaves.specs.Fits.Typed.{arm_typed, pattern_typed, type_typed}
+use Rattle.dslx_check_leaves.proofs.Lemmas.Fits.Levels.{pattern_at, pattern_number}
 use Rattle.dslx_check_leaves.specs.Typed.{element_at, given_at, placed, placed_field, placed_token, placed_type}
 use Rattle.dslx_check_leaves.proofs.Lemmas.Walking as walk
 use Rattle.dslx_check_leaves.proofs.Lemmas.Each as each

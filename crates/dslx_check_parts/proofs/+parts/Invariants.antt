@@ -1,8 +1,8 @@
 use Rattle.std.proofs.Common.{◌≡◌, ◌+◌, ◌*◌, ℕ, map, max, take}
 use Rattle.dslx_meaning.specs.Rules.ControlRules.{statements_typing}
-use Rattle.dslx_check_control.specs.Calls.{IsGiven}
+use Rattle.dslx_check_rules.specs.Control.Calls.{IsGiven}
 use Rattle.dslx_check_facts.specs.Walks.{shown}
-use Rattle.dslx_check_fits.specs.Typed.{arm_typed, pattern_typed}
+use Rattle.dslx_check_leaves.specs.Fits.Typed.{arm_typed, pattern_typed}
 use Rattle.dslx_check_leaves.specs.Typed.{element_at, given_at, placed, placed_field, placed_token, placed_type, stmt_typed}
 use Rattle.dslx_check_leaves.specs.Walked.{ElementAll, JudgedAll, JudgedArms, JudgedGiven, JudgedStatements, TypesPattern, WalksTo}
 use Rattle.dslx_check_leaves.proofs.Lemmas.OnArms.{AreOver}

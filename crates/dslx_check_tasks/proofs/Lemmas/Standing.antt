@@ -17,9 +17,9 @@ use Rattle.dslx_check_facts.specs.Walks.{HasTables, OnlyMisses, WalkGrows, WalkS
 use Rattle.dslx_check_facts.proofs.Lemmas.Walks.{misses_grows, misses_refl, misses_trans, tables_refl, tables_trans}
 use Rattle.dslx_check_rules.proofs.Lemmas.Types.{get_in_prefix}
 use Rattle.dslx_check_declarations.specs.Tops.{IsProcAt}
-use Rattle.dslx_check_work.specs.Learnt.{PutsThere}
-use Rattle.dslx_check_work.specs.Tables.{KnowsBy}
-use Rattle.dslx_check_work.specs.Text.{IsTextEnv}
+use Rattle.dslx_check_declarations.specs.Work.Learnt.{PutsThere}
+use Rattle.dslx_check_declarations.specs.Work.Tables.{KnowsBy}
+use Rattle.dslx_check_declarations.specs.Work.Text.{IsTextEnv}
 use Rattle.dslx_check_tasks.specs.Laws.{KnownStays, NothingKnown}
 use Rattle.dslx_check_tasks.specs.declared.work.Reaches.{Reaches}
 use Rattle.dslx_check_tasks.specs.declared.work.Work.{Work}

@@ -10,10 +10,10 @@ use Rattle.dslx_check_rules.specs.declared.typing.Typing.{Typing}
 use Rattle.dslx_check_rules.specs.Interned.{AreDistinct, HasRowIf, ItemNames, type_if}
 use Rattle.dslx_check_facts.specs.declared.facts.Facts.{Facts}
 use Rattle.dslx_check_facts.specs.Known.{item_names}
-use Rattle.dslx_check_nodes.specs.declared.parts.Spanned.{Spanned}
-use Rattle.dslx_check_nodes.specs.declared.structs.FieldTyping.{FieldTyping}
-use Rattle.dslx_check_nodes.specs.Parts.{ArePlaced, IsPart, IsPlacedIf, Pairs, Placed}
-use Rattle.dslx_check_nodes.specs.Nodes.Structs.{IsField, declared_struct, undeclared_struct}
+use Rattle.dslx_check_rules.specs.declared.nodes.parts.Spanned.{Spanned}
+use Rattle.dslx_check_rules.specs.declared.nodes.structs.FieldTyping.{FieldTyping}
+use Rattle.dslx_check_rules.specs.Nodes.Parts.{ArePlaced, IsPart, IsPlacedIf, Pairs, Placed}
+use Rattle.dslx_check_rules.specs.Nodes.Nodes.Structs.{IsField, declared_struct, undeclared_struct}
 use Rattle.dslx_check_uses.specs.Uses.{uneven_at, unknown_at, unwanted, wanted_of}
 
 -- a field of which no type is wanted

@@ -4,7 +4,7 @@ use Rattle.std.proofs.Math.ListN.{drop_of_length-le}
 use Rattle.std.proofs.Math.Seq.{drop-cons}
 use Rattle.dslx_meaning.specs.Items.{put_first}
 use Rattle.dslx_meaning.specs.Lists.{all_some, with_both}
-use Rattle.dslx_scope_patterns.proofs.Lemmas.Numbers.InOrder.{behind, behind_all, behind_more, behind_none}
+use Rattle.dslx_scope_names.proofs.Lemmas.Numbers.InOrder.{behind, behind_all, behind_more, behind_none}
 
 -- what all of some parts make
 module _ {A B : Type 0} (all : List A → Option (List B)) (xs : List A) (i : ℕ) where

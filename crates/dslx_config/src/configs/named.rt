@@ -6,7 +6,7 @@ ghost use Rattle.dslx_meaning.specs.Items.{item_named};
 ghost use Rattle.dslx_meaning.specs.Network.{as_proc, last_proc_of, top_proc as the_top};
 
 use base::texts::Name;
-use dslx_names::find_item;
+use dslx_meaning::names::find_item;
 use dslx_tree::{Definition, Item, Module, Proc};
 
 /// The proc of a name, if the first item of that name is one.

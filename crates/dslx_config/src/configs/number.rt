@@ -11,8 +11,8 @@ ghost use Rattle.dslx_core.specs.Networks.Configs.{lower_spawn_parametrics};
 ghost use Rattle.dslx_scope_names.specs.Values.Seen.{scope_seen};
 
 use dslx_meaning::DslxValue;
+use dslx_scope_names::parametric_args::all_parametric_args;
 use dslx_scope_names::values::{ScopeEnv, constant_there};
-use dslx_scope_patterns::parametric_args::all_parametric_args;
 use dslx_tree::{Arg, Module, Proc};
 use std::alloc::{AllocError, Global};
 use xb_value::Seq;

@@ -6,7 +6,7 @@ ghost use Rattle.dslx_meaning.specs.Items.{meanings_of};
 
 use dslx_const::block_eval;
 use dslx_meaning::DslxValue;
-use dslx_scope_patterns::parametric_args::scope_of;
+use dslx_scope_names::parametric_args::scope_of;
 use dslx_tree::{Module, Proc};
 use std::alloc::{AllocError, Global};
 

@@ -4,7 +4,7 @@ ghost use Rattle.std.specs.Prelude.{◌≡◌, [], Some, IfOk};
 ghost use Rattle.dslx_core.specs.Machines.Machine.Callees.{CalleesByName};
 ghost use Rattle.dslx_core.specs.Lowering.Steps.{can_travel as travels, member_in};
 ghost use Rattle.dslx_meaning.specs.Lists.{where_true};
-ghost use Rattle.dslx_scope_patterns.specs.Patterns.Behind.{body_scope};
+ghost use Rattle.dslx_scope_names.specs.Patterns.Behind.{body_scope};
 ghost use Rattle.dslx_config.specs.Members.Members.{numbered_member};
 
 use crate::channels::can_travel;
@@ -12,7 +12,7 @@ use crate::members::outer::outer_type;
 use base::texts::Name;
 use dslx_core::lowering::CoreMember;
 use dslx_meaning::DslxType;
-use dslx_scope_patterns::patterns::BodyScope;
+use dslx_scope_names::patterns::BodyScope;
 use dslx_tree::End;
 use std::alloc::{AllocError, Global};
 

@@ -3,12 +3,12 @@
 ghost use Rattle.std.specs.Prelude.{◌≡◌, [], IfOk};
 ghost use Rattle.dslx_core.specs.Machines.Machine.Callees.{CalleesByName};
 ghost use Rattle.dslx_core.specs.Lowering.Trees.{lower_type_of_text};
-ghost use Rattle.dslx_scope_patterns.specs.Patterns.Behind.{body_scope};
+ghost use Rattle.dslx_scope_names.specs.Patterns.Behind.{body_scope};
 
 use dslx_meaning::DslxType;
 use dslx_scope::locals::Locals;
+use dslx_scope_names::patterns::BodyScope;
 use dslx_scope_names::values::{ScopeEnv, type_there};
-use dslx_scope_patterns::patterns::BodyScope;
 use dslx_tree::TypeExpr;
 use std::alloc::{AllocError, Global};
 

@@ -3,18 +3,18 @@
 ghost use Rattle.dslx_meaning.specs.Inference.{inferred_for as number_for};
 ghost use Rattle.dslx_meaning.specs.Values.{type_of_value as the_type};
 ghost use Rattle.std.specs.Prelude.{◌≡◌, ◌∷◌, ◌==◌, [], Some, OnOk, IfOk, map, length, nat_lt};
-ghost use Rattle.dslx_names.specs.ConstMachine.Items.{function_from, uses_function, at_function, call_fails, body_begins, operands_on, call_begins, default_begins, parametric_begins, parametrics_on, parametric_given};
-ghost use Rattle.dslx_names.specs.ConstMachine.States.{back_at, one_less};
-ghost use Rattle.dslx_names.specs.ConstMachine.Steps.{stepped};
-ghost use Rattle.dslx_names.specs.ConstMachine.Tasks.{GivesParametric, GivesOperands, FindsParametrics};
+ghost use Rattle.dslx_meaning.specs.Names.ConstMachine.Items.{function_from, uses_function, at_function, call_fails, body_begins, operands_on, call_begins, default_begins, parametric_begins, parametrics_on, parametric_given};
+ghost use Rattle.dslx_meaning.specs.Names.ConstMachine.States.{back_at, one_less};
+ghost use Rattle.dslx_meaning.specs.Names.ConstMachine.Steps.{stepped};
+ghost use Rattle.dslx_meaning.specs.Names.ConstMachine.Tasks.{GivesParametric, GivesOperands, FindsParametrics};
 ghost use Rattle.dslx_values.specs.Inference.Inferences.{inferred};
 ghost use Rattle.dslx_const.specs.Calls.Inner.Inferred.{inferred_past};
 ghost use Rattle.dslx_const_tasks.specs.Plain.{shown, plain_call_task, plain_call};
 
 use base::texts::Name;
 use dslx_const_tasks::{Call, CallTask, Machine, ValueTask, in_order, one_left};
+use dslx_meaning::names::{Binding, Scope, find_function};
 use dslx_meaning::{DslxType, DslxValue, UntypedLiteral};
-use dslx_names::{Binding, Scope, find_function};
 use dslx_tree::{Field, Function, Parametric};
 use dslx_values::inference::{Inference, inferred_for, inferred_from};
 use dslx_values::type_of_value;

@@ -2,10 +2,10 @@
 
 ghost use Rattle.std.specs.Prelude.{◌≡◌, OnOk};
 ghost use Rattle.dslx_meaning.specs.Callees.{kind_of_call};
-ghost use Rattle.dslx_names.specs.ConstMachine.Lists.{builtin_value, calls, gathers_parametric_args};
-ghost use Rattle.dslx_names.specs.ConstMachine.Steps.{stepped};
-ghost use Rattle.dslx_names.specs.ConstMachine.Tasks.{GathersParametricArgs};
-ghost use Rattle.dslx_names.specs.Called.{kind_of};
+ghost use Rattle.dslx_meaning.specs.Names.ConstMachine.Lists.{builtin_value, calls, gathers_parametric_args};
+ghost use Rattle.dslx_meaning.specs.Names.ConstMachine.Steps.{stepped};
+ghost use Rattle.dslx_meaning.specs.Names.ConstMachine.Tasks.{GathersParametricArgs};
+ghost use Rattle.dslx_meaning.specs.Names.Called.{kind_of};
 ghost use Rattle.dslx_const_tasks.specs.Plain.{shown};
 
 use crate::calls::use_function;
@@ -13,7 +13,7 @@ use crate::lists::list::{gather, put_behind};
 use base::texts::Name;
 use dslx_const_tasks::{ListMaker, ListTask, Machine};
 use dslx_meaning::DslxValue;
-use dslx_names::{Callee, callee_of};
+use dslx_meaning::names::{Callee, callee_of};
 use dslx_tree::{Arg, Expr};
 use dslx_values::operators::{
     all_ones, count_leading, count_trailing, parity, reversed, some_one, updated,

@@ -3,16 +3,16 @@
 ghost use Rattle.std.specs.Prelude.{◌≡◌, [], Some, None, OnOk, IfOk};
 ghost use Rattle.dslx_meaning.specs.Meaning.{field_from as the_field};
 ghost use Rattle.dslx_meaning.specs.declared.ty.DslxType.{out-DslxType};
-ghost use Rattle.dslx_names.specs.ConstMachine.Lists.{field_begins, fields_on, gathers_fields, rest_begins, fields_of_type};
-ghost use Rattle.dslx_names.specs.ConstMachine.Steps.{stepped};
-ghost use Rattle.dslx_names.specs.ConstMachine.Tasks.{FindsFields, TakesRest};
+ghost use Rattle.dslx_meaning.specs.Names.ConstMachine.Lists.{field_begins, fields_on, gathers_fields, rest_begins, fields_of_type};
+ghost use Rattle.dslx_meaning.specs.Names.ConstMachine.Steps.{stepped};
+ghost use Rattle.dslx_meaning.specs.Names.ConstMachine.Tasks.{FindsFields, TakesRest};
 ghost use Rattle.dslx_const_tasks.specs.Plain.{shown, plain_fields};
 
 use base::texts::Name;
 use dslx_const_tasks::items::use_name;
 use dslx_const_tasks::{Fields, ListTask, Machine, Task};
+use dslx_meaning::names::find_field;
 use dslx_meaning::{DslxType, DslxValue};
-use dslx_names::find_field;
 use dslx_tree::{Expr, FieldValue};
 use dslx_values::{copy_name, field_of};
 use std::alloc::{AllocError, Global};

@@ -2,10 +2,10 @@
 
 ghost use Rattle.std.specs.Prelude.{◌≡◌, ◌∷◌, ◌++◌, [], OnOk, IfOk};
 ghost use Rattle.dslx_meaning.specs.declared.ty.DslxType.{out-DslxType};
-ghost use Rattle.dslx_names.specs.ConstMachine.Lists.{made_of, gathers, fills};
-ghost use Rattle.dslx_names.specs.ConstMachine.States.{doing};
-ghost use Rattle.dslx_names.specs.ConstMachine.Steps.{stepped};
-ghost use Rattle.dslx_names.specs.ConstMachine.Tasks.{FindsElements, Gathers};
+ghost use Rattle.dslx_meaning.specs.Names.ConstMachine.Lists.{made_of, gathers, fills};
+ghost use Rattle.dslx_meaning.specs.Names.ConstMachine.States.{doing};
+ghost use Rattle.dslx_meaning.specs.Names.ConstMachine.Steps.{stepped};
+ghost use Rattle.dslx_meaning.specs.Names.ConstMachine.Tasks.{FindsElements, Gathers};
 ghost use Rattle.dslx_const.specs.Lists.Inner.Elements.{begins_by, element_by, number_by};
 ghost use Rattle.dslx_const_tasks.specs.Plain.{shown, plain_list, plain_list_task};
 

@@ -2,8 +2,8 @@
 
 ghost use Rattle.std.specs.Prelude.{◌≡◌, OnOk, IfOk};
 ghost use Rattle.dslx_tree.specs.declared.block.Stmt.{out-Stmt};
-ghost use Rattle.dslx_names.specs.ConstMachine.Steps.{stepped, made_of_one, made_of_pair, part_begins, chooses, stmt_begins, last_begins, statements_begin};
-ghost use Rattle.dslx_names.specs.ConstMachine.Tasks.{Binds, Passes, Numbers, MakesOne, FindsRight, MakesPair, TakesPart, Casts, FindsEnd, Slices, Chooses};
+ghost use Rattle.dslx_meaning.specs.Names.ConstMachine.Steps.{stepped, made_of_one, made_of_pair, part_begins, chooses, stmt_begins, last_begins, statements_begin};
+ghost use Rattle.dslx_meaning.specs.Names.ConstMachine.Tasks.{Binds, Passes, Numbers, MakesOne, FindsRight, MakesPair, TakesPart, Casts, FindsEnd, Slices, Chooses};
 ghost use Rattle.dslx_const_tasks.specs.Plain.{shown, plain_value_task, plain_one, plain_pair};
 
 use crate::fit_one;

@@ -4,13 +4,13 @@ ghost use Rattle.dslx_meaning.specs.Items.{name_of_field, enum_member as the_mem
 ghost use Rattle.dslx_meaning.specs.Lists.{and_then};
 ghost use Rattle.dslx_meaning.specs.Types.{bits_in as kind_of};
 ghost use Rattle.dslx_meaning.specs.declared.ty.DslxType as forms;
-ghost use Rattle.dslx_names.specs.ConstMachine.States.{type_in, without_finding};
+ghost use Rattle.dslx_meaning.specs.Names.ConstMachine.States.{type_in, without_finding};
 ghost use Rattle.std.specs.Prelude.{◌≡◌, ◌∷◌, ◌++◌, [], Some, None, OnOk, IfOk, map};
 ghost use Rattle.dslx_meaning.specs.Meaning.{some_count, count_in};
-ghost use Rattle.dslx_names.specs.ConstMachine.Layers.{type_of, untyped_of as number_of_expr, count_of};
-ghost use Rattle.dslx_names.specs.ConstMachine.Items.{field_types_on};
-ghost use Rattle.dslx_names.specs.ConstMachine.Steps.{stepped, types_on, type_begins, member_begins, of_base};
-ghost use Rattle.dslx_names.specs.ConstMachine.Tasks.{MakesBits, FindsSize, MakesArrayType, GathersTypes, GathersFieldTypes, MakesEnumType, FindsMember, MakesMember, CountsSize, IsSize, CountsBound, IsBound};
+ghost use Rattle.dslx_meaning.specs.Names.ConstMachine.Layers.{type_of, untyped_of as number_of_expr, count_of};
+ghost use Rattle.dslx_meaning.specs.Names.ConstMachine.Items.{field_types_on};
+ghost use Rattle.dslx_meaning.specs.Names.ConstMachine.Steps.{stepped, types_on, type_begins, member_begins, of_base};
+ghost use Rattle.dslx_meaning.specs.Names.ConstMachine.Tasks.{MakesBits, FindsSize, MakesArrayType, GathersTypes, GathersFieldTypes, MakesEnumType, FindsMember, MakesMember, CountsSize, IsSize, CountsBound, IsBound};
 ghost use Rattle.dslx_const_tasks.specs.Plain.{shown, plain_type_task};
 
 use crate::items::uses::use_type;

@@ -3,15 +3,15 @@
 ghost use Rattle.std.specs.Prelude.{◌≡◌, [], Some, OnOk, IfOk};
 ghost use Rattle.dslx_meaning.specs.Environment.{given_in};
 ghost use Rattle.dslx_meaning.specs.Items.{item_named, is_constant_item, member_named};
-ghost use Rattle.dslx_names.specs.ConstMachine.States.{at_item, one_less};
-ghost use Rattle.dslx_names.specs.ConstMachine.Items.{constant_from, is_constant_within, member_from, struct_from, type_from, uses_constant, uses_name, uses_member, at_member, uses_struct, uses_type, at_type_item, at_struct};
+ghost use Rattle.dslx_meaning.specs.Names.ConstMachine.States.{at_item, one_less};
+ghost use Rattle.dslx_meaning.specs.Names.ConstMachine.Items.{constant_from, is_constant_within, member_from, struct_from, type_from, uses_constant, uses_name, uses_member, at_member, uses_struct, uses_type, at_type_item, at_struct};
 ghost use Rattle.dslx_const_tasks.specs.Plain.{shown};
 
 use crate::items::ty::gather_field_types;
 use crate::{CallTask, Machine, Task, TypeTask, copy_if, one_left};
 use base::texts::Name;
 use dslx_meaning::DslxValue;
-use dslx_names::{Scope, find_constant, find_enum, find_item, find_member, find_struct};
+use dslx_meaning::names::{Scope, find_constant, find_enum, find_item, find_member, find_struct};
 use dslx_tree::{Definition, Enum, Item, Struct};
 use dslx_values::copy_value;
 use std::alloc::{AllocError, Global};

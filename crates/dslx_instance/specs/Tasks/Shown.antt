@@ -3,7 +3,7 @@ use Rattle.std.specs.Prelude.{List, Option, None, Some, map, reverse}
 use Rattle.dslx_tree.specs.declared.item.Module.{Module}
 use Rattle.dslx_meaning.specs.Items.{meanings_of}
 use Rattle.dslx_core.specs.declared.expr.CoreExpr as core
-use Rattle.dslx_names.specs.Bound.{given}
+use Rattle.dslx_meaning.specs.Names.Bound.{given}
 use Rattle.dslx_core.specs.Lowering.Functions.{CoreInstance}
 use Rattle.dslx_core.specs.Lowering.Lowering.{LoweredExpr, lowered}
 use Rattle.dslx_instance.specs.declared.tasks.maker.LastMaker.{LastMaker}

@@ -7,7 +7,7 @@ ghost use Rattle.dslx_instance.specs.Tasks.Shown.{arms_task_shown, block_task_sh
 use crate::tasks::task::{ArmsTask, BlockTask, CallTask, LoopTask, LowerTask, PartsTask};
 use base::stacks::Stack;
 use dslx_core::lowering::LoweredExpr;
-use dslx_names::Binding;
+use dslx_meaning::names::Binding;
 use dslx_scope::locals::Locals;
 use dslx_tree::Expr;
 use std::alloc::{AllocError, Global};

@@ -1,5 +1,5 @@
 use crate::table::InstanceTable;
-use dslx_names::Binding;
+use dslx_meaning::names::Binding;
 use dslx_scope::locals::Locals;
 
 /// Expressions of one body that are lowered one after another: the instances that are made, and what is bound.

@@ -6,7 +6,7 @@ use Rattle.dslx_meaning.specs.Lists.{and_then, where_true}
 use Rattle.dslx_meaning.specs.declared.ty.DslxType.{DslxType}
 use Rattle.dslx_core.specs.Lowering.CoreScopes.{BodyEnv, CoreScope}
 use Rattle.dslx_core.specs.Lowering.Functions.{Instantiated, argument_types, arguments_in_scope, parametric_args_are_well_typed, outer_scope}
-use Rattle.dslx_scope_patterns.specs.Numbers.InScope.{arguments_of}
+use Rattle.dslx_scope_names.specs.Numbers.InScope.{arguments_of}
 use Rattle.dslx_core.specs.Machines.Machine.Machines.{body_open, function_open}
 use Rattle.dslx_core.specs.Machines.Machine.Tasks.{OpenInstance}
 

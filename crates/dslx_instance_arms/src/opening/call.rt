@@ -7,8 +7,8 @@ ghost use Rattle.dslx_instance_arms.specs.Opening.Done.{call_in, done_in, missin
 ghost use Rattle.dslx_instance.specs.Tasks.Shown.{body_shown, task_shown};
 
 use dslx_core::lowering::{CoreCallee, Instantiated, LoweredExpr};
-use dslx_core_calls::aggregates::types_of;
-use dslx_core_calls::calls::lower_call;
+use dslx_core_exprs::aggregates::types_of;
+use dslx_core_exprs::calls::lower_call;
 use dslx_instance::table::{InstanceTable, callee_there};
 use dslx_instance::tasks::{CallTask, LowerTask, OpenBody};
 use dslx_values::{copy_name, copy_values};

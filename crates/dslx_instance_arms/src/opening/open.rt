@@ -3,7 +3,7 @@
 ghost use Rattle.std.specs.Prelude.{◌≡◌, ◌∷◌, [], List, IfOk, map, reverse};
 ghost use Rattle.std.specs.Option.{option_map};
 ghost use Rattle.dslx_core.specs.Lowering.Functions.{CoreInstance};
-ghost use Rattle.dslx_names.specs.Bound.{given};
+ghost use Rattle.dslx_meaning.specs.Names.Bound.{given};
 ghost use Rattle.dslx_core.specs.Machines.Machine.Tasks.{LowersBlock};
 ghost use Rattle.dslx_core.specs.Machines.Machine.Machines.{function_open, instance_open, globals_of};
 ghost use Rattle.dslx_instance.specs.Tasks.Shown.{instance_shown, instance_env_of};
@@ -11,8 +11,8 @@ ghost use Rattle.dslx_instance.specs.Tasks.Shown.{instance_shown, instance_env_o
 use base::stacks::Stack;
 use dslx_core::lowering::Instantiated;
 use dslx_instance::tasks::{BlockTask, LowerTask, OpenBody, OpenInstance};
-use dslx_names::{Binding, find_function};
-use dslx_scope_patterns::parametric_args::{
+use dslx_meaning::names::{Binding, find_function};
+use dslx_scope_names::parametric_args::{
     Arguments, arguments_there, bindings_of, parametric_args_are_well_typed,
 };
 use dslx_tree::{Function, Module};

@@ -3,7 +3,7 @@ use Rattle.std.specs.Prelude.{[], ◌∷◌, Option, Some, None}
 use Rattle.dslx_tree.specs.declared.expr.Expr.{Expr}
 use Rattle.dslx_meaning.specs.declared.ty.DslxType.{DslxType}
 use Rattle.dslx_meaning.specs.declared.value.UntypedLiteral.{UntypedLiteral}
-use Rattle.dslx_names.specs.ConstMachine.Layers.{untyped_of}
+use Rattle.dslx_meaning.specs.Names.ConstMachine.Layers.{untyped_of}
 use Rattle.dslx_core.specs.Lowering.Lowering.{LoweredExpr, lower_number}
 use Rattle.dslx_core.specs.Machines.Machine.Bodies.{doing, gives}
 use Rattle.dslx_core.specs.Machines.Machine.Tasks.{PartsMaker, Fills, LowersExpr, OpenBody}

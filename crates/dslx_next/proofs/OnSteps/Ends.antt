@@ -6,8 +6,8 @@ use Rattle.dslx_tree.specs.declared.block.Stmt.{Stmt, out-Stmt}
 use Rattle.dslx_tree.specs.declared.expr.Expr.{Expr}
 use Rattle.dslx_tree.specs.declared.item.Module.{Module}
 use Rattle.dslx_tree.specs.declared.process.Proc.{Proc}
-use Rattle.dslx_names.specs.Bound.{given}
-use Rattle.dslx_names.specs.declared.scope.Binding.{Binding}
+use Rattle.dslx_meaning.specs.Names.Bound.{given}
+use Rattle.dslx_meaning.specs.declared.names.scope.Binding.{Binding}
 use Rattle.dslx_meaning.specs.Items.{meanings_of}
 use Rattle.dslx_meaning.specs.Lists.{and_then, where_true}
 use Rattle.dslx_meaning.specs.declared.ty.DslxType.{DslxType}

@@ -11,7 +11,7 @@ use Rattle.dslx_meaning.specs.Items.{meanings_of}
 use Rattle.dslx_meaning.specs.Lists.{and_then}
 use Rattle.dslx_core.proofs.Lemmas.Typing.Typed.{none_some, same_some}
 use Rattle.dslx_core.specs.declared.step.Step.{Step}
-use Rattle.dslx_names.specs.Bound.{given}
+use Rattle.dslx_meaning.specs.Names.Bound.{given}
 use Rattle.dslx_core.specs.Lowering.Functions.{CoreInstance, callee_in, outer_scope}
 use Rattle.dslx_core.specs.Lowering.Patterns.{LoweredShape}
 use Rattle.dslx_core.proofs.Lemmas.Lowering.{from_then}

@@ -4,8 +4,8 @@ use Rattle.dslx_tree.specs.declared.expr.Expr.{Expr}
 use Rattle.dslx_tree.specs.declared.item.Module.{Module}
 use Rattle.dslx_meaning.specs.Activation.{SiteAct}
 use Rattle.dslx_meaning.specs.Items.{meanings_of}
-use Rattle.dslx_names.specs.Bound.{given}
-use Rattle.dslx_names.specs.declared.scope.Binding.{Binding}
+use Rattle.dslx_meaning.specs.Names.Bound.{given}
+use Rattle.dslx_meaning.specs.declared.names.scope.Binding.{Binding}
 use Rattle.dslx_core.specs.Lowering.CoreScopes.{BodyEnv, CoreScope}
 use Rattle.dslx_core.specs.Lowering.Functions.{CoreInstance, callee_in, outer_scope}
 use Rattle.dslx_core.specs.Machines.Machine.Reached.{IsTable}

@@ -8,8 +8,8 @@ ghost use Rattle.dslx_core.specs.Lowering.Steps.{is_sized as has_elements, lower
 ghost use Rattle.dslx_core.specs.Lowering.Trees.{lower_type_of_text};
 ghost use Rattle.dslx_meaning.specs.Items.{meanings_of};
 ghost use Rattle.dslx_meaning.specs.Lists.{and_then, where_true};
-ghost use Rattle.dslx_names.specs.Bound.{given};
-ghost use Rattle.dslx_scope_patterns.specs.Patterns.Behind.{body_scope};
+ghost use Rattle.dslx_meaning.specs.Names.Bound.{given};
+ghost use Rattle.dslx_scope_names.specs.Patterns.Behind.{body_scope};
 ghost use Rattle.dslx_param.specs.Needed.{TableMakes};
 ghost use Rattle.dslx_next.specs.Opening.Works.{parametric_args_known};
 
@@ -21,11 +21,11 @@ use dslx_core_exprs::alike::{equal_type, is_sized};
 use dslx_instance::table::InstanceTable;
 use dslx_instance::tasks::BodyWork;
 use dslx_meaning::DslxType;
-use dslx_names::Binding;
+use dslx_meaning::names::Binding;
 use dslx_scope::locals::Locals;
 use dslx_scope_names::names::is_constant_named;
-use dslx_scope_patterns::parametric_args::parametric_args_are_well_typed;
-use dslx_scope_patterns::patterns::BodyScope;
+use dslx_scope_names::parametric_args::parametric_args_are_well_typed;
+use dslx_scope_names::patterns::BodyScope;
 use dslx_tree::{Module, Proc, TypeExpr};
 use dslx_values::{copy_name, copy_type};
 use std::alloc::{AllocError, Global};

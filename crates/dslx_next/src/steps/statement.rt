@@ -6,7 +6,7 @@ ghost use Rattle.dslx_core.specs.Lowering.Functions.{CoreInstance};
 ghost use Rattle.dslx_core.specs.Lowering.Patterns.{shaped};
 ghost use Rattle.dslx_core.specs.Lowering.Steps.{binds_nothing};
 ghost use Rattle.dslx_meaning.specs.Lists.{and_then};
-ghost use Rattle.dslx_names.specs.Bound.{given};
+ghost use Rattle.dslx_meaning.specs.Names.Bound.{given};
 ghost use Rattle.dslx_next.specs.Opening.Works.{HasTable, scope_at};
 ghost use Rattle.dslx_next.specs.Steps.Passing.{StepBinds, BodyPasses, act_at, statement_at};
 
@@ -15,7 +15,7 @@ use dslx_core::machines::alike::lower_mono;
 use dslx_core::{Shape, Step};
 use dslx_instance::tasks::BodyWork;
 use dslx_meaning::DslxType;
-use dslx_scope_patterns::patterns::{BodyScope, bind_there};
+use dslx_scope_names::patterns::{BodyScope, bind_there};
 use dslx_tree::{Expr, Pattern, Stmt};
 use std::alloc::{AllocError, Global};
 

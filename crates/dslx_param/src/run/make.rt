@@ -13,7 +13,7 @@ ghost use Rattle.dslx_instance.specs.Tasks.Shown.{body_shown, last_shown, instan
 use base::stacks::Stack;
 use base::texts::Name;
 use dslx_core::lowering::LoweredExpr;
-use dslx_core_calls::aggregates::lower_field;
+use dslx_core_exprs::aggregates::lower_field;
 use dslx_instance::tasks::{LastMaker, OpenBody};
 use dslx_instance_parts::{
     bound_in_body, make_binary, make_cast, make_choice, make_element, make_indexed, make_part,

@@ -2,7 +2,7 @@
 use Rattle.std.proofs.Common.{refl, ap, [], ◌∷◌, drop}
 use Rattle.std.specs.Prelude.{None, Some}
 use Rattle.xb_span.specs.Spans.{nowhere}
-use Rattle.grammar.specs.declared.table.Symbol.TheVariants.{Terminal, Nonterminal}
+use Rattle.base.specs.declared.grammar.table.Symbol.TheVariants.{Terminal, Nonterminal}
 use Rattle.dslx_token.specs.declared.rules.generated.kind.TheConstants as kind
 use Rattle.dslx_token.specs.declared.rules.generated.nonterminal.TheConstants as nonterminal
 use Rattle.dslx_tree.specs.declared.type_expr.TypeExpr.{out-TypeExpr}

@@ -1,6 +1,6 @@
 -- What the builder does at the rules of blocks, statements and patterns is what they make.
 use Rattle.std.proofs.Common.{refl, ap, [], ◌∷◌, drop}
-use Rattle.grammar.specs.declared.table.Symbol.TheVariants.{Terminal, Nonterminal}
+use Rattle.base.specs.declared.grammar.table.Symbol.TheVariants.{Terminal, Nonterminal}
 use Rattle.dslx_token.specs.declared.rules.generated.kind.TheConstants as kind
 use Rattle.dslx_token.specs.declared.rules.generated.nonterminal.TheConstants as nonterminal
 use Rattle.dslx_tree.specs.declared.pattern.Shape as shapes

@@ -1,10 +1,10 @@
 -- Trees of the grammar make parts, and what makes parts are trees of the grammar.
 use Rattle.std.proofs.Common.{◌≡◌, ◌∙◌, ℕ, zero, suc, List, [], ◌∷◌, ◌++◌, map, ap, sym, refl, subst}
 use Rattle.std.specs.Prelude.{Some, slice_get}
-use Rattle.grammar.specs.declared.table.Symbol.{Symbol}
-use Rattle.grammar.specs.declared.table.Symbol.TheVariants.{Terminal, Nonterminal}
-use Rattle.grammar.specs.Syntax.{Rule}
-use Rattle.grammar.specs.Tree.{Forest, token, node, Grows, leaves_of}
+use Rattle.base.specs.declared.grammar.table.Symbol.{Symbol}
+use Rattle.base.specs.declared.grammar.table.Symbol.TheVariants.{Terminal, Nonterminal}
+use Rattle.base.specs.Grammar.Syntax.{Rule}
+use Rattle.base.specs.Grammar.Tree.{Forest, token, node, Grows, leaves_of}
 use Rattle.dslx_token.specs.Lexeme.{Lexeme}
 use Rattle.dslx_parser.specs.Syntax.SymbolParts.{SemanticAction, PartsOf, made_from}
 use Rattle.dslx_parser.specs.Syntax.Trees.{Makes, empty, leaf, branch, semantic_actions, rule_of}

@@ -1,8 +1,8 @@
 -- Where the part of each sort stands on the builder's stacks.
 use Rattle.std.proofs.Common.{◌≡◌, List, [], ◌∷◌, length, map, drop, refl}
 use Rattle.std.specs.Prelude.{Option}
-use Rattle.grammar.specs.declared.table.Symbol.{Symbol}
-use Rattle.grammar.specs.declared.table.Symbol.TheVariants.{Terminal, Nonterminal}
+use Rattle.base.specs.declared.grammar.table.Symbol.{Symbol}
+use Rattle.base.specs.declared.grammar.table.Symbol.TheVariants.{Terminal, Nonterminal}
 use Rattle.xb_span.specs.declared.span.Span.{Span}
 use Rattle.xb_span.specs.Spans.{nowhere}
 use Rattle.dslx_tree.specs.declared.block.Stmt.{Stmt}

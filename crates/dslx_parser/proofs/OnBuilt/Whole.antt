@@ -1,11 +1,11 @@
 -- A whole text.
 use Rattle.std.proofs.Common.{◌≡◌, ◌∙◌, ℕ, List, [], ◌∷◌, ◌++◌, map, ap, sym, refl, subst}
 use Rattle.std.proofs.lemmas.List.{append-nil}
-use Rattle.grammar.specs.declared.bottom_up.Step.{Step}
-use Rattle.grammar.specs.declared.table.Symbol.TheVariants.{Terminal, Nonterminal}
-use Rattle.grammar.specs.Derivation.{start_of}
-use Rattle.grammar.specs.Steps.{steps_of}
-use Rattle.grammar.specs.Tree.{Forest, Grows, IsParseTree, productions_of}
+use Rattle.base.specs.declared.grammar.bottom_up.Step.{Step}
+use Rattle.base.specs.declared.grammar.table.Symbol.TheVariants.{Terminal, Nonterminal}
+use Rattle.base.specs.Grammar.Derivation.{start_of}
+use Rattle.base.specs.Grammar.Steps.{steps_of}
+use Rattle.base.specs.Grammar.Tree.{Forest, Grows, IsParseTree, productions_of}
 use Rattle.dslx_token.specs.Rules.Dslx.{dslx}
 use Rattle.dslx_token.specs.declared.rules.generated.kind.TheConstants.{END}
 use Rattle.dslx_token.specs.declared.rules.generated.nonterminal.TheConstants.{MODULE}

@@ -1,8 +1,8 @@
 -- How high the part of each sort is.
 use Rattle.std.proofs.Common.{◌≡◌, ◌≤◌, ◌+◌, ℕ, suc, List, [], ◌∷◌, ◌++◌, map}
 use Rattle.std.specs.Prelude.{◌-◌}
-use Rattle.grammar.specs.declared.table.Symbol.{Symbol}
-use Rattle.grammar.specs.declared.table.Symbol.TheVariants.{Terminal, Nonterminal}
+use Rattle.base.specs.declared.grammar.table.Symbol.{Symbol}
+use Rattle.base.specs.declared.grammar.table.Symbol.TheVariants.{Terminal, Nonterminal}
 use Rattle.xb_span.specs.declared.span.Span.{Span}
 use Rattle.dslx_tree.specs.declared.ident.Ident.{Ident}
 use Rattle.dslx_tree.specs.declared.type_expr.TypeExpr.{TypeExpr}

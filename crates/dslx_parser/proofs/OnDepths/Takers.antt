@@ -1,11 +1,11 @@
 -- Which rule took each token, along the tree.
 use Rattle.std.proofs.Common.{◌≡◌, ℕ, List, [], ◌∷◌, ◌++◌, refl, ap, sym, ◌∙◌}
 use Rattle.std.proofs.lemmas.List.{append_assoc, append-nil}
-use Rattle.grammar.specs.declared.table.Symbol.{Symbol}
-use Rattle.grammar.specs.declared.table.Symbol.TheVariants.{Terminal}
-use Rattle.grammar.specs.Syntax.{Rule}
-use Rattle.grammar.specs.Tree.{Forest, Grows, empty, leaf, branch, leaves_of, productions_of}
-use Rattle.grammar.specs.Tree as forests
+use Rattle.base.specs.declared.grammar.table.Symbol.{Symbol}
+use Rattle.base.specs.declared.grammar.table.Symbol.TheVariants.{Terminal}
+use Rattle.base.specs.Grammar.Syntax.{Rule}
+use Rattle.base.specs.Grammar.Tree.{Forest, Grows, empty, leaf, branch, leaves_of, productions_of}
+use Rattle.base.specs.Grammar.Tree as forests
 use Rattle.xb_span.specs.declared.nesting.bracket_class.BracketClass.{BracketClass}
 use Rattle.dslx_token.specs.declared.bracket_classes.owners.Owned.{Owned}
 use Rattle.dslx_token.specs.BracketClasses.BracketClasses.{bracket_class_of, bracket_classes_by}

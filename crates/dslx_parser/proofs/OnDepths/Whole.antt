@@ -1,11 +1,11 @@
 -- The tree of a text whose tokens nest within the limit is no higher than that lets it be.
 use Rattle.std.proofs.Common.{◌≤◌, ◌≡◌, ℕ, zero, suc, List, [], ◌∷◌, ◌++◌, map, refl, ap, sym, ◌∙◌, subst}
 use Rattle.std.specs.Prelude.{None, Some, slice_get}
-use Rattle.grammar.specs.declared.table.Symbol.{Symbol}
-use Rattle.grammar.specs.declared.table.Symbol.TheVariants.{Terminal, Nonterminal}
-use Rattle.grammar.specs.Derivation.{Derives, start_of}
-use Rattle.grammar.specs.Syntax.{Rule}
-use Rattle.grammar.specs.Tree.{Forest, Grows, leaves_of, productions_of}
+use Rattle.base.specs.declared.grammar.table.Symbol.{Symbol}
+use Rattle.base.specs.declared.grammar.table.Symbol.TheVariants.{Terminal, Nonterminal}
+use Rattle.base.specs.Grammar.Derivation.{Derives, start_of}
+use Rattle.base.specs.Grammar.Syntax.{Rule}
+use Rattle.base.specs.Grammar.Tree.{Forest, Grows, leaves_of, productions_of}
 use Rattle.dslx_token.specs.Rules.Dslx.{dslx}
 use Rattle.dslx_token.specs.declared.rules.generated.kind.TheConstants.{END}
 use Rattle.dslx_token.specs.declared.rules.generated.nonterminal.TheConstants.{MODULE}

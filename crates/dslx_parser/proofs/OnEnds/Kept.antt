@@ -1,7 +1,7 @@
 -- The trees of a text's tokens make parts whose ends have words for names.
 use Rattle.std.proofs.Common.{◌≡◌, ℕ, true, List, [], ◌∷◌, ◌++◌}
-use Rattle.grammar.specs.declared.table.Symbol.{Symbol}
-use Rattle.grammar.specs.Tree.{Forest}
+use Rattle.base.specs.declared.grammar.table.Symbol.{Symbol}
+use Rattle.base.specs.Grammar.Tree.{Forest}
 use Rattle.dslx_token.specs.Lexeme.{Lexeme}
 use Rattle.dslx_tree.specs.declared.item.Module.{Module}
 use Rattle.dslx_parser.specs.Ends.{ends_are_words}

@@ -3,8 +3,8 @@ use Rattle.std.proofs.Common.{◌≡◌, ◌&&◌, ℕ, zero, suc, Bool, true, f
 use Rattle.std.proofs.lemmas.Bool.{false≢true, and_parts}
 use Rattle.std.specs.List.{list_all}
 use Rattle.base.specs.Texts.Words.{is_word}
-use Rattle.grammar.specs.declared.table.Symbol.{Symbol}
-use Rattle.grammar.specs.declared.table.Symbol.TheVariants.{Terminal, Nonterminal}
+use Rattle.base.specs.declared.grammar.table.Symbol.{Symbol}
+use Rattle.base.specs.declared.grammar.table.Symbol.TheVariants.{Terminal, Nonterminal}
 use Rattle.dslx_parser.specs.Ends.{declares_words, each_declares_words, ends_are_words, named_by_words}
 use Rattle.dslx_parser.specs.Syntax.Atoms as atoms
 use Rattle.dslx_parser.specs.Syntax.Blocks as blocks

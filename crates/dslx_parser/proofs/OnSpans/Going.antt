@@ -1,9 +1,9 @@
 -- The tokens of trees stand where the parts that the trees make do.
 use Rattle.std.proofs.Common.{◌≡◌, ◌≤◌, ℕ, zero, suc, List, [], ◌∷◌, ◌++◌, subst}
 use Rattle.std.specs.Prelude.{Some, slice_get}
-use Rattle.grammar.specs.declared.table.Symbol.{Symbol}
-use Rattle.grammar.specs.declared.table.Symbol.TheVariants.{Terminal, Nonterminal}
-use Rattle.grammar.specs.Tree.{Forest}
+use Rattle.base.specs.declared.grammar.table.Symbol.{Symbol}
+use Rattle.base.specs.declared.grammar.table.Symbol.TheVariants.{Terminal, Nonterminal}
+use Rattle.base.specs.Grammar.Tree.{Forest}
 use Rattle.dslx_token.specs.Lexeme.{Lexeme}
 use Rattle.dslx_tree.specs.declared.item.Module.{Module}
 use Rattle.dslx_parser.specs.Syntax.Sorts.{OfSort, sort_of}

@@ -1,7 +1,7 @@
 -- How a tree is built: each token adds a part, and each complete tree of a rule makes one of the parts of its symbols.
 use Rattle.std.specs.Prelude.{ℕ, List, [], ◌∷◌, Option, None, Some, reverse, slice_get}
-use Rattle.grammar.specs.declared.bottom_up.Step.{Step}
-use Rattle.grammar.specs.declared.bottom_up.Step.TheVariants.{Shift, Reduce}
+use Rattle.base.specs.declared.grammar.bottom_up.Step.{Step}
+use Rattle.base.specs.declared.grammar.bottom_up.Step.TheVariants.{Shift, Reduce}
 use Rattle.dslx_tree.specs.declared.item.Module.{Module}
 use Rattle.dslx_token.specs.Lexeme.{Lexeme}
 use Rattle.dslx_actions.specs.declared.parts.SemanticStacks.{SemanticStacks}

@@ -3,7 +3,7 @@
 -- its statements, and `next`. What stands between two of them (a loop's or an arm's fields, say) counts nothing.
 use Rattle.std.specs.Prelude.{◌≡◌, ◌+◌, ℕ, zero, suc, List, [], ◌∷◌, ◌++◌, Option, None, Some, map, max}
 use Rattle.std.specs.Option.{option_map}
-use Rattle.grammar.specs.Derivation.{IsDerivation}
+use Rattle.base.specs.Grammar.Derivation.{IsDerivation}
 use Rattle.dslx_token.specs.Rules.Dslx.{dslx}
 use Rattle.xb_span.specs.Nesting.Nesting.{first_past}
 use Rattle.xb_span.specs.declared.nesting.depth.TheConstants.{MOST}

@@ -1,6 +1,6 @@
 -- What the rules of blocks, statements and patterns make of the parts of their symbols, in the order of docs/dslx.grammar.
 use Rattle.std.specs.Prelude.{List, true, false, [], ◌∷◌, None, Some}
-use Rattle.grammar.specs.declared.table.Symbol.TheVariants.{Terminal, Nonterminal}
+use Rattle.base.specs.declared.grammar.table.Symbol.TheVariants.{Terminal, Nonterminal}
 use Rattle.dslx_token.specs.declared.rules.generated.kind.TheConstants as kind
 use Rattle.dslx_token.specs.declared.rules.generated.nonterminal.TheConstants as nonterminal
 use Rattle.dslx_tree.specs.declared.block.Let.{roll-Let}

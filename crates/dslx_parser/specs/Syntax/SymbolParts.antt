@@ -1,7 +1,7 @@
 -- A rule of the grammar, and what it makes of the parts of its symbols.
 use Rattle.std.specs.Prelude.{ℕ, List, [], ◌∷◌}
-use Rattle.grammar.specs.declared.table.Symbol.{Symbol}
-use Rattle.grammar.specs.declared.table.Symbol.TheVariants.{Terminal, Nonterminal}
+use Rattle.base.specs.declared.grammar.table.Symbol.{Symbol}
+use Rattle.base.specs.declared.grammar.table.Symbol.TheVariants.{Terminal, Nonterminal}
 use Rattle.dslx_token.specs.Lexeme.{Lexeme}
 use Rattle.dslx_parser.specs.Syntax.Sorts.{OfSort, sort_of}
 

@@ -1,9 +1,9 @@
 -- What the trees of the grammar make: from the bottom up, each rule makes a part of those of its symbols.
 use Rattle.std.specs.Prelude.{◌≡◌, ℕ, List, [], ◌∷◌, ◌++◌, Some, slice_get}
-use Rattle.grammar.specs.declared.table.Symbol.{Symbol}
-use Rattle.grammar.specs.declared.table.Symbol.TheVariants.{Terminal, Nonterminal}
-use Rattle.grammar.specs.Syntax.{Rule}
-use Rattle.grammar.specs.Tree.{Forest, nothing, token, node}
+use Rattle.base.specs.declared.grammar.table.Symbol.{Symbol}
+use Rattle.base.specs.declared.grammar.table.Symbol.TheVariants.{Terminal, Nonterminal}
+use Rattle.base.specs.Grammar.Syntax.{Rule}
+use Rattle.base.specs.Grammar.Tree.{Forest, nothing, token, node}
 use Rattle.dslx_token.specs.declared.rules.generated.kind.TheConstants.{END}
 use Rattle.dslx_token.specs.declared.rules.generated.nonterminal.TheConstants.{MODULE}
 use Rattle.dslx_token.specs.Lexeme.{Lexeme}

@@ -1,17 +1,17 @@
 //! Building the tree.
 
 ghost use Rattle.std.specs.Prelude.{◌≡◌, ◌∷◌, List, drop, IfOk, OnOk};
-ghost use Rattle.grammar.specs.declared.bottom_up.Step.{Step};
+ghost use Rattle.base.specs.declared.grammar.bottom_up.Step.{Step};
 ghost use Rattle.dslx_token.specs.Lexeme.{Lexeme};
 ghost use Rattle.dslx_parser.specs.Builder.Building.{built, module_of};
 ghost use Rattle.dslx_actions.specs.Empty.{empty};
 
 use crate::builder::rule::reduce;
 use crate::builder::table::rule_of;
+use base::grammar::Step;
 use dslx_actions::{SemanticStacks, Stack};
 use dslx_token::Token;
 use dslx_tree::Module;
-use grammar::Step;
 use std::alloc::{AllocError, Global};
 use xb_value::Seq;
 

@@ -1,7 +1,7 @@
 //! What is done for each rule of the grammar.
 
 ghost use Rattle.std.specs.Prelude.{◌≡◌, map};
-ghost use Rattle.grammar.specs.Syntax.{AreInOrder};
+ghost use Rattle.base.specs.Grammar.Syntax.{AreInOrder};
 ghost use Rattle.dslx_parser.specs.Builder.Building.{entry_at, rule_of};
 ghost use Rattle.dslx_parser.specs.Builder.Table.{table};
 

@@ -17,9 +17,9 @@ use Rattle.dslx_meaning.specs.Activation.{NodeLayer, StmtLayer, node_of}
 use Rattle.dslx_meaning.specs.Callees.{is_text_function, kind_of_call}
 use Rattle.dslx_meaning.specs.Lists.{is_in}
 use Rattle.dslx_meaning.specs.Rules.Mentions.{AsFunction, Mention, Mentions, NamesBound, all_mentions, binders_mentions, binders_names, bound_behind, mention, mentioned, mentioned_in_arg, mentioned_in_block, mentioned_in_type, value_mention, value_names}
-use Rattle.dslx_names.specs.ConstMachine.Layers.{PatternLayer, TypeLayer, shape_of, type_of}
-use Rattle.dslx_names.specs.FirstNames.{first_names}
-use Rattle.dslx_names.proofs.Lemmas.FirstNames.{back_to}
+use Rattle.dslx_meaning.specs.Names.ConstMachine.Layers.{PatternLayer, TypeLayer, shape_of, type_of}
+use Rattle.dslx_meaning.specs.Names.FirstNames.{first_names}
+use Rattle.dslx_meaning.proofs.Lemmas.Names.FirstNames.{back_to}
 use Rattle.dslx_scope.specs.FreeNames.Found.{all_found, bound_by, bound_by_statements, mentioned_by, names_of_tasks}
 use Rattle.dslx_scope.specs.FreeNames.Mentioned.{in_arm, in_field, in_pattern, in_statements, in_stmt}
 use Rattle.dslx_scope.specs.FreeNames.Steps as s

@@ -18,7 +18,7 @@ use Rattle.dslx_tree.proofs.Lemmas.Folds.Folds.{Steps, folds, fold_bind, fold_lo
 use Rattle.dslx_meaning.specs.Activation.{NodeLayer, StmtLayer, node_of}
 use Rattle.dslx_meaning.specs.Rules.Mentions as k
 use Rattle.dslx_meaning.specs.Rules.Mentions.{Mentions, NamesBound, mentioned, mentioned_in_block, mentioned_in_type, mentioned_in_arg, mentions_if, binders_mentions, bound_behind, statements_mentions, value_mention}
-use Rattle.dslx_names.specs.ConstMachine.Layers.{PatternLayer, TypeLayer, shape_of, type_of}
+use Rattle.dslx_meaning.specs.Names.ConstMachine.Layers.{PatternLayer, TypeLayer, shape_of, type_of}
 use Rattle.dslx_scope.specs.FreeNames.Mentioned.{in_arm, in_field, in_pattern, in_statements, in_stmt}
 
 abbrev pub mentions : Carriers

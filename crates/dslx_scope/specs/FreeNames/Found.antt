@@ -2,7 +2,7 @@
 use Rattle.std.specs.Prelude.{ℕ, List, [], ◌∷◌, ◌++◌, map}
 use Rattle.dslx_tree.specs.declared.block.Stmt.{Stmt}
 use Rattle.dslx_meaning.specs.Rules.Mentions.{Mentions, all_mentions, binders_mentions, binders_names, mentioned, mentioned_in_arg, mentioned_in_block, mentioned_in_type, nowhere, value_names}
-use Rattle.dslx_names.specs.FirstNames.{first_names}
+use Rattle.dslx_meaning.specs.Names.FirstNames.{first_names}
 use Rattle.dslx_scope.specs.FreeNames.Tasks as task
 use Rattle.dslx_scope.specs.FreeNames.Tasks.{FreeTask, FreeState}
 use Rattle.dslx_scope.specs.FreeNames.Mentioned.{in_arm, in_field, in_pattern, in_statements, in_stmt}

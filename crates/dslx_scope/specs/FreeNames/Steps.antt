@@ -14,8 +14,8 @@ use Rattle.dslx_tree.specs.declared.pattern.Pattern.{Pattern}
 use Rattle.dslx_tree.specs.declared.type_expr.TypeExpr.{TypeExpr}
 use Rattle.dslx_meaning.specs.Activation.{NodeLayer, StmtLayer, node_of}
 use Rattle.dslx_meaning.specs.Lists.{is_in}
-use Rattle.dslx_names.specs.FirstNames.{first_names}
-use Rattle.dslx_names.specs.ConstMachine.Layers.{PatternLayer, TypeLayer, shape_of, type_of}
+use Rattle.dslx_meaning.specs.Names.FirstNames.{first_names}
+use Rattle.dslx_meaning.specs.Names.ConstMachine.Layers.{PatternLayer, TypeLayer, shape_of, type_of}
 use Rattle.dslx_scope.specs.FreeNames.Tasks as task
 use Rattle.dslx_scope.specs.FreeNames.Tasks.{FreeTask, FreeState}
 

@@ -8,7 +8,7 @@ use crate::free_names::step::step;
 use crate::free_names::task::Task;
 use base::stacks::Stack;
 use base::texts::Name;
-use dslx_names::BoundNames;
+use dslx_meaning::names::BoundNames;
 use dslx_tree::{Expr, TypeExpr};
 use std::alloc::{AllocError, Global};
 

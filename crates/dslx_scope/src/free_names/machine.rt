@@ -5,7 +5,7 @@ ghost use Rattle.dslx_scope.specs.FreeNames.Steps.{visiting, meets_name, binding
 use crate::free_names::task::Task;
 use base::stacks::Stack;
 use base::texts::Name;
-use dslx_names::BoundNames;
+use dslx_meaning::names::BoundNames;
 use dslx_tree::{Expr, TypeExpr};
 use std::alloc::AllocError;
 use xb_value::Boxed;

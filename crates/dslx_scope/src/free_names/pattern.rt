@@ -1,7 +1,7 @@
 //! Types and patterns.
 
 ghost use Rattle.std.specs.Prelude.{◌≡◌, OnOk};
-ghost use Rattle.dslx_names.specs.ConstMachine.Layers.{shape_of, type_of};
+ghost use Rattle.dslx_meaning.specs.Names.ConstMachine.Layers.{shape_of, type_of};
 ghost use Rattle.dslx_scope.specs.FreeNames.Plain.{shown};
 ghost use Rattle.dslx_scope.specs.FreeNames.Steps.{type_opens, types_open, shape_opens, patterns_open, shape_binds, patterns_bind};
 

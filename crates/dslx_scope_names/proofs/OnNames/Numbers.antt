@@ -5,7 +5,7 @@ use Rattle.dslx_meaning.specs.Lists.{and_then}
 use Rattle.dslx_meaning.specs.Operators.{number_value}
 use Rattle.dslx_meaning.specs.declared.ty.DslxType.{DslxType}
 use Rattle.dslx_meaning.specs.declared.value.DslxValue.{DslxValue}
-use Rattle.dslx_names.specs.ConstMachine.Layers.{written}
+use Rattle.dslx_meaning.specs.Names.ConstMachine.Layers.{written}
 use Rattle.dslx_core.specs.Lowering.Trees.{lower_type_of_text}
 use Rattle.dslx_core.specs.Machines.Machine.Callees.{CalleesByName}
 use Rattle.dslx_core.specs.Machines.Machine.Steps.{number_at}

@@ -15,12 +15,12 @@ use Rattle.dslx_meaning.specs.Items.{as_struct, item_named, meanings_of, meaning
 use Rattle.dslx_meaning.specs.Lists.{and_then}
 use Rattle.dslx_meaning.specs.Meaning.{ArmDen, ValueDen, FieldDen, StmtDen, ExprDen, PatternDen, TypeDen, arg_den, arm_den, block_den, expr_den, field_den, for_den, let_den, node_den, number_node, pattern_den, shape_den, stmt_den, type_expr_den, type_den, written_type}
 use Rattle.dslx_meaning.specs.declared.ty.DslxType.{DslxType}
-use Rattle.dslx_names.specs.ConstMachine.Items.{at_struct, at_type_item, uses_struct, uses_type}
-use Rattle.dslx_names.specs.ConstMachine.Layers.{TypeLayer, type_of}
-use Rattle.dslx_names.specs.ConstMachine.States.{type_in}
-use Rattle.dslx_names.specs.ConstMachine.Steps.{type_begins}
-use Rattle.dslx_names.specs.ConstMachine.Tasks.{ConstState, Finding, FindsType, ValueFound}
-use Rattle.dslx_names.proofs.Lemmas.ConstMachine.{comes_to, comes_to_stepped}
+use Rattle.dslx_meaning.specs.Names.ConstMachine.Items.{at_struct, at_type_item, uses_struct, uses_type}
+use Rattle.dslx_meaning.specs.Names.ConstMachine.Layers.{TypeLayer, type_of}
+use Rattle.dslx_meaning.specs.Names.ConstMachine.States.{type_in}
+use Rattle.dslx_meaning.specs.Names.ConstMachine.Steps.{type_begins}
+use Rattle.dslx_meaning.specs.Names.ConstMachine.Tasks.{ConstState, Finding, FindsType, ValueFound}
+use Rattle.dslx_meaning.proofs.Lemmas.Names.ConstMachine.{comes_to, comes_to_stepped}
 
 -- where nothing is to be done, and a chain of uses may go through so many items
 abbrev at_rest : Module → List Given → ℕ → ConstState

@@ -4,7 +4,7 @@ use Rattle.dslx_tree.specs.declared.type_expr.TypeExpr.{TypeExpr}
 use Rattle.dslx_meaning.specs.Environment.{Given}
 use Rattle.dslx_meaning.specs.Items.{meanings_of}
 use Rattle.dslx_meaning.specs.Meaning.{written_type}
-use Rattle.dslx_names.specs.Bound.{given}
+use Rattle.dslx_meaning.specs.Names.Bound.{given}
 use Rattle.dslx_core.specs.Lowering.CoreScopes.{CoreScope, globals_env, unless_local}
 use Rattle.dslx_core.specs.Lowering.Trees.{lower_type_of_text}
 use Rattle.dslx_scope.specs.WrittenTypes.Seen.{type_sees_a_local}

@@ -1,7 +1,7 @@
 -- A scope in a body, by what code has of it.
 use Rattle.std.specs.Prelude.{ℕ, None, map, reverse}
 use Rattle.dslx_meaning.specs.Items.{meanings_of}
-use Rattle.dslx_names.specs.Bound.{given}
+use Rattle.dslx_meaning.specs.Names.Bound.{given}
 use Rattle.dslx_core.specs.Lowering.CoreScopes.{CoreScope}
 use Rattle.dslx_core.specs.Machines.Machine.Callees.{CalleesByName}
 use Rattle.dslx_scope_names.specs.declared.values.context.ScopeEnv.{ScopeEnv}

@@ -7,7 +7,7 @@ use crate::values::{machine_in, run, type_found};
 use base::texts::Name;
 use dslx_const_tasks::items::use_struct;
 use dslx_meaning::DslxType;
-use dslx_names::{Scope, find_constant};
+use dslx_meaning::names::{Scope, find_constant};
 use dslx_tree::Module;
 use std::alloc::{AllocError, Global};
 

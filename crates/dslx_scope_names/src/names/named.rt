@@ -8,7 +8,7 @@ use crate::values::{machine_in, run, value_found};
 use base::texts::Name;
 use dslx_const_tasks::items::{use_member, use_name};
 use dslx_meaning::DslxValue;
-use dslx_names::Scope;
+use dslx_meaning::names::Scope;
 use dslx_tree::Module;
 use std::alloc::{AllocError, Global};
 

@@ -1,7 +1,7 @@
 ghost use Rattle.std.specs.Prelude.{◌≡◌, IfOk, map, reverse};
-ghost use Rattle.dslx_names.specs.Bound.{given};
+ghost use Rattle.dslx_meaning.specs.Names.Bound.{given};
 
-use dslx_names::{Binding, Scope};
+use dslx_meaning::names::{Binding, Scope};
 use dslx_scope::locals::Locals;
 use dslx_tree::Module;
 use dslx_values::copy_value;

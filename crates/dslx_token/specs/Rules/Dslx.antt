@@ -1,6 +1,6 @@
 -- The grammar of DSLX: the rules of docs/dslx.grammar, and the end mark.
 use Rattle.std.specs.Prelude.{map}
-use Rattle.grammar.specs.Syntax.{Syntax}
+use Rattle.base.specs.Grammar.Syntax.{Syntax}
 use Rattle.dslx_token.specs.declared.rules.generated.kind.TheConstants.{END}
 use Rattle.dslx_token.specs.Rules.Rules.{named_rules}
 

@@ -1,8 +1,8 @@
 -- Written by tools/grammar_tables.py from docs/dslx.grammar.
 -- The rules of the grammar by their names.
 use Rattle.std.specs.Prelude.{ℕ, List, [], ◌∷◌}
-use Rattle.grammar.specs.Syntax.{NamedRule, named}
-use Rattle.grammar.specs.declared.table.Symbol.TheVariants.{Terminal, Nonterminal}
+use Rattle.base.specs.Grammar.Syntax.{NamedRule, named}
+use Rattle.base.specs.declared.grammar.table.Symbol.TheVariants.{Terminal, Nonterminal}
 use Rattle.dslx_token.specs.declared.rules.generated.kind.TheConstants as kind
 use Rattle.dslx_token.specs.declared.rules.generated.nonterminal.TheConstants as nonterminal
 use Rattle.dslx_token.specs.declared.rules.generated.production.TheConstants as production

@@ -2,11 +2,11 @@
 
 ghost use Rattle.std.specs.Prelude.{◌≡◌, ◌++◌, drop, reverse, take, IfOk, OnOk};
 ghost use Rattle.dslx_token.specs.BracketClasses.Takers.{behind_nonterminal, body_of, prefix_takers, owned_by, takers_of};
-ghost use Rattle.grammar.specs.Syntax.{rules_of, syntax_of};
+ghost use Rattle.base.specs.Grammar.Syntax.{rules_of, syntax_of};
 ghost use Rattle.dslx_token.specs.Rules.Dslx.{dslx};
 
 use crate::rules::kind::END;
-use grammar::{Grammar, Symbol};
+use base::grammar::{Grammar, Symbol};
 use std::alloc::{AllocError, Global};
 
 /// A symbol of the body of a rule.

@@ -1,9 +1,9 @@
-//! What holds of DSLX's grammar: of its names, and the laws of the crate `grammar`, each the contract of a
+//! What holds of DSLX's grammar: of its names, and the laws of `base::grammar`, each the contract of a
 //! function that makes one call.
 
 ghost use Rattle.std.specs.Prelude.{◌≡◌, ℕ, ◌*◌, ◌≤◌, List, length, map};
-ghost use Rattle.grammar.specs.Derivation.{IsBeginning, IsDerivation};
-ghost use Rattle.grammar.specs.Syntax.{AreInOrder};
+ghost use Rattle.base.specs.Grammar.Derivation.{IsBeginning, IsDerivation};
+ghost use Rattle.base.specs.Grammar.Syntax.{AreInOrder};
 ghost use Rattle.dslx_token.specs.Rules.Dslx.{dslx};
 ghost use Rattle.dslx_token.specs.Rules.Rules.{kinds, named_rules, nonterminals};
 
@@ -21,19 +21,19 @@ pub fn names()
 pub fn one_derivation()
     ensures { (ps qs ts : List ℕ) → IsDerivation dslx ps ts → IsDerivation dslx qs ts → ps ≡ qs }
 {
-    grammar::one_derivation(&grammar());
+    base::grammar::one_derivation(&grammar());
 }
 
 /// At most one list of productions leads to a prefix.
 pub fn one_beginning()
     ensures { (ps qs ts : List ℕ) → IsBeginning dslx ps ts → IsBeginning dslx qs ts → ps ≡ qs }
 {
-    grammar::one_beginning(&grammar());
+    base::grammar::one_beginning(&grammar());
 }
 
 /// A derivation has at most 32 productions for each token.
 pub fn linear_derivations()
     ensures { (ps ts : List ℕ) → IsDerivation dslx ps ts → length ps ≤ 32 * length ts }
 {
-    grammar::linear_derivations(&grammar());
+    base::grammar::linear_derivations(&grammar());
 }

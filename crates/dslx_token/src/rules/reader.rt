@@ -1,19 +1,19 @@
 //! Reading the kinds of a DSLX text's tokens.
 
 ghost use Rattle.std.specs.Prelude.{◌≡◌, ℕ, ◌<◌, ◌++◌, List, length, take, IfOk, MatchResult};
-ghost use Rattle.grammar.specs.Answer.{EndsWith, IfFault};
-ghost use Rattle.grammar.specs.Derivation.{StartsWith, IsBeginning, IsDerivation, IsSentence};
-ghost use Rattle.grammar.specs.Ll1.{IsLl1};
-ghost use Rattle.grammar.specs.Syntax.{syntax_of};
-ghost use Rattle.grammar.specs.Steps.{steps_of};
-ghost use Rattle.grammar.specs.Tree.{AreNodes, Forest, IsParseTree};
-ghost use Rattle.grammar.specs.declared.parser.ParseError.TheVariants.{OutOfMemory};
+ghost use Rattle.base.specs.Grammar.Answer.{EndsWith, IfFault};
+ghost use Rattle.base.specs.Grammar.Derivation.{StartsWith, IsBeginning, IsDerivation, IsSentence};
+ghost use Rattle.base.specs.Grammar.Ll1.{IsLl1};
+ghost use Rattle.base.specs.Grammar.Syntax.{syntax_of};
+ghost use Rattle.base.specs.Grammar.Steps.{steps_of};
+ghost use Rattle.base.specs.Grammar.Tree.{AreNodes, Forest, IsParseTree};
+ghost use Rattle.base.specs.declared.grammar.parser.ParseError.TheVariants.{OutOfMemory};
 ghost use Rattle.base.specs.Lists.Fault.{IsFirstFault};
 ghost use Rattle.dslx_token.specs.Rules.Dslx.{dslx};
 
 use crate::rules::generated::kind::END;
 use crate::rules::generated::tables;
-use grammar::{Grammar, Node, ParseError, Step};
+use base::grammar::{Grammar, Node, ParseError, Step};
 use std::alloc::{AllocError, Global};
 
 /// The grammar of DSLX.
@@ -45,7 +45,7 @@ pub fn parse(alloc: Global, kinds: &[u8]) -> Result<Vec<u16>, ParseError>
         → IsDerivation dslx ps (take fault.place kinds.now ++ more)
         → StartsWith ps fault.productions.items) }
 {
-    grammar::parse(alloc, &grammar(), kinds)
+    base::grammar::parse(alloc, &grammar(), kinds)
 }
 
 /// The tree of a derivation of the kinds: for each production, how many productions and tokens it took.
@@ -53,7 +53,7 @@ pub fn parse_tree(alloc: Global, productions: &[u16], kinds: &[u8]) -> Result<Ve
     requires { IsDerivation dslx productions.now kinds.now }
     ensures { IfOk result (λ nodes. AreNodes dslx.rules productions.now nodes.items) }
 {
-    grammar::parse_tree(alloc, &grammar(), productions, kinds)
+    base::grammar::parse_tree(alloc, &grammar(), productions, kinds)
 }
 
 /// The steps in which the tree of a derivation is built from the bottom up.
@@ -62,5 +62,5 @@ pub fn steps(alloc: Global, productions: &[u16]) -> Result<Vec<Step>, AllocError
     ensures { IfOk result (λ steps. (ts : List ℕ) (f : Forest)
         → IsParseTree dslx productions.now ts f → steps.items ≡ steps_of f) }
 {
-    grammar::steps(alloc, &grammar(), productions)
+    base::grammar::steps(alloc, &grammar(), productions)
 }

@@ -26,8 +26,8 @@ use Rattle.net_core.proofs.Lemmas.{ends_by_position, opening_typed, rounds_settl
 use Rattle.ir_tree.specs.declared.package.Package.{Package}
 use Rattle.ir_tree.specs.Networks.{behaviors_of, network_of}
 use Rattle.ir_tree.specs.SameBehavior.{IsDenotedBy, SameActivations, SameActivationsEach, SameBehavior}
-use Rattle.ir_verify.proofs.Lemmas.Typed.{network_fits, procs_fit, procs_keep_types}
-use Rattle.ir_verify.specs.Verified.{IsVerified}
+use Rattle.ir_tree.proofs.Lemmas.Rules.Typed.{network_fits, procs_fit, procs_keep_types}
+use Rattle.ir_tree.specs.Rules.Verified.{IsVerified}
 use Rattle.ir_eval.proofs.OnOutcomes.Positions.{trace_stands}
 use Rattle.ir_eval.proofs.OnOutcomes.Runs.{SameEach, SameIfThere, SameProc, final_typed_for, same_final, same_procs, same_received, same_words}
 

@@ -10,7 +10,7 @@ ghost use Rattle.net_core.specs.WellFormed.{IsNet, IsInputs, AreBehaviorsOf, Eac
 ghost use Rattle.ir_tree.specs.declared.package.Package.{Package};
 ghost use Rattle.ir_tree.specs.Networks.{network_of, behaviors_of};
 ghost use Rattle.ir_tree.specs.SameBehavior.{IsDenotedBy, SameActivationsEach, SameBehavior};
-ghost use Rattle.ir_verify.specs.Verified.{IsVerified};
+ghost use Rattle.ir_tree.specs.Rules.Verified.{IsVerified};
 
 /// Runs of a network and of a package that mean the same have the same outcome, for all inputs, numbers of activations and depths:
 /// so have runs of two packages that do, and those of one network whose procs do one thing or another that is the same.
@@ -28,5 +28,5 @@ pub fn same_behavior_has_the_same_outcomes()
         outcome_of (run_of (network_of p) (behaviors_of p) inputs n depths) (final_cut (run_of (network_of p) (behaviors_of p) inputs n depths))
         ≡ outcome_of (run_of (network_of q) (behaviors_of q) inputs n depths) (final_cut (run_of (network_of q) (behaviors_of q) inputs n depths)) }
 {
-    ir_verify::same::same_procs_come_to_the_same_events();
+    ir_tree::rules::same::same_procs_come_to_the_same_events();
 }

@@ -8,21 +8,21 @@ use Rattle.ir_tree.specs.declared.package.Package.{Package}
 use Rattle.ir_tree.specs.declared.package.Proc.{Proc}
 use Rattle.ir_tree.specs.Activations.{activation}
 use Rattle.ir_tree.specs.SameBehavior.{SameActivations}
-use Rattle.ir_nodes.specs.Types.{ir_type_of}
-use Rattle.ir_nodes.specs.Given.{IsNodeType}
+use Rattle.ir_rebuild.specs.Putting.Types.{ir_type_of}
+use Rattle.ir_rebuild.specs.Putting.Given.{IsNodeType}
 use Rattle.dslx_core.specs.declared.design.Design.{Design}
 use Rattle.dslx_core.specs.declared.design.Function.{Function}
 use Rattle.dslx_core.specs.declared.design.Instance.{Instance}
-use Rattle.dslx_core_types.specs.Designs.{FunctionSignature, WordTypes}
-use Rattle.ir_lower_exprs.specs.Calls.{AreNodeFunctions, calls_below, types_below}
-use Rattle.ir_lower_acts.specs.Activities.{word_width}
-use Rattle.ir_lower_acts.specs.InstanceActivities.{instance_behavior}
-use Rattle.ir_lower_steps.specs.Steps.{MembersCarryWords}
-use Rattle.ir_lower_procs.specs.Instances.{next_node_type}
+use Rattle.dslx_core.specs.Types.Designs.{FunctionSignature, WordTypes}
+use Rattle.ir_lower_nodes.specs.Exprs.Calls.{AreNodeFunctions, calls_below, types_below}
+use Rattle.ir_lower_nodes.specs.Acts.Activities.{word_width}
+use Rattle.ir_lower_nodes.specs.Acts.InstanceActivities.{instance_behavior}
+use Rattle.ir_lower_nodes.specs.Steps.Steps.{MembersCarryWords}
+use Rattle.ir_lower_nodes.specs.Procs.Instances.{next_node_type}
 use Rattle.ir_lower.specs.Deep.{word_type}
-use Rattle.ir_lower_types.specs.declared.signature.Signature.{Signature}
-use Rattle.ir_lower_types.specs.Signatures.{signatures_of}
-use Rattle.ir_lower_types.specs.Typed.{InstanceTyped}
+use Rattle.ir_lower.specs.declared.types.signature.Signature.{Signature}
+use Rattle.ir_lower.specs.Types.Signatures.{signatures_of}
+use Rattle.ir_lower.specs.Types.Typed.{InstanceTyped}
 
 -- where its parts have types, the IR proc does what an instance does whose members are ends of the channels of these numbers
 abbrev pub ProcLowers : List Function → List ℕ → Instance → Proc → Type 0

@@ -12,8 +12,8 @@ use Rattle.ir_tree.specs.declared.node.Node.{Node}
 use Rattle.ir_tree.specs.declared.node.Attributes.{Attributes}
 use Rattle.ir_tree.specs.declared.node.Attributes.TheVariants as attributes
 use Rattle.ir_tree.specs.declared.constant.Constant.{Constant}
-use Rattle.ir_verify.specs.Fitting.{Types, type_in, types_behind, types_fit, plain_fits, slice_fits, dynamic_fits, extend_fits, sel_fits, tuple_index_fits, index_fits, predicate_fits, first_is_token, site_fits, is_bit_slice, is_dynamic_bit_slice, is_extend, is_sel, is_tuple_index}
-use Rattle.ir_verify.specs.Lines.{is_there}
+use Rattle.ir_tree.specs.Rules.Fitting.{Types, type_in, types_behind, types_fit, plain_fits, slice_fits, dynamic_fits, extend_fits, sel_fits, tuple_index_fits, index_fits, predicate_fits, first_is_token, site_fits, is_bit_slice, is_dynamic_bit_slice, is_extend, is_sel, is_tuple_index}
+use Rattle.ir_tree.specs.Rules.Lines.{is_there}
 use Rattle.ir_tree.specs.NodeTypes.Types.{bits_width}
 use Rattle.ir_rebuild.specs.Operands.{operands_in, attribute_operands, optional_operand}
 use Rattle.ir_rebuild.specs.Built.{is_plain_op, numbered}

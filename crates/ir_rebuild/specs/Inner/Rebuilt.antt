@@ -4,9 +4,9 @@ use Rattle.ir_tree.specs.declared.package.Channel.{Channel}
 use Rattle.ir_tree.specs.declared.package.Proc.{Proc}
 use Rattle.ir_tree.specs.Activations.{sites_of, activation}
 use Rattle.ir_tree.specs.SameBehavior.{SameActivations}
-use Rattle.ir_verify.specs.Lines.{Seen}
-use Rattle.ir_verify.specs.Verified.{nowhere_proc, at_start, seen_after, proc_checks}
-use Rattle.ir_verify.specs.Typed.Typed.{none_broken, AreChannels}
+use Rattle.ir_tree.specs.Rules.Lines.{Seen}
+use Rattle.ir_tree.specs.Rules.Verified.{nowhere_proc, at_start, seen_after, proc_checks}
+use Rattle.ir_tree.specs.Rules.Typed.Typed.{none_broken, AreChannels}
 
 -- a proc that breaks no rule and passes no limit behind procs of these names that leave this
 abbrev pub IsCheckedBehind : List Channel → List (List ℕ) → Seen → Proc → Type 0

@@ -4,7 +4,7 @@ use Rattle.delay_model.specs.declared.op.Op.{Op}
 use Rattle.ir_tree.specs.declared.ir_type.IrType.{IrType}
 use Rattle.ir_tree.specs.declared.node.Operand.{Operand}
 use Rattle.ir_tree.specs.declared.node.Node.{Node}
-use Rattle.ir_verify.specs.Fitting.{type_in, types_behind}
+use Rattle.ir_tree.specs.Rules.Fitting.{type_in, types_behind}
 use Rattle.ir_rebuild.specs.Operands.{node_of}
 
 -- the operation of a node, and the types of its operands

@@ -1,13 +1,13 @@
 -- The last token of a text is the mark at its end.
 use Rattle.std.proofs.Common.{◌≡◌, ◌-◌, ℕ, suc, List, [], ◌∷◌, length, refl, ap, sym, ◌∙◌, subst, arith, drop, take}
 use Rattle.std.specs.Prelude.{slice_get}
-use Rattle.grammar.specs.Answer.{EndsWith}
-use Rattle.ir_token.specs.declared.rules.generated.kind.TheConstants.{END}
+use Rattle.base.specs.Grammar.Answer.{EndsWith}
+use Rattle.ir_builder.specs.declared.token.rules.generated.kind.TheConstants.{END}
 use Rattle.dslx_token.specs.Blank.{after_blank}
 use Rattle.dslx_token.specs.Lexeme.{Lexeme}
 use Rattle.dslx_token.specs.Tokens.{offset_of}
-use Rattle.ir_token.specs.Kinds.{Context, context_behind, kind_in, no_context, settled_in}
-use Rattle.ir_token.specs.Tokens.{ends, goes, ir_lexeme_at, AreIrTokens, IsCutInto}
+use Rattle.ir_builder.specs.Token.Kinds.{Context, context_behind, kind_in, no_context, settled_in}
+use Rattle.ir_builder.specs.Token.Tokens.{ends, goes, ir_lexeme_at, AreIrTokens, IsCutInto}
 use Rattle.ir_text.specs.Parser.Reads.{kinds_of}
 
 ends_behind : (k : ℕ) (xs : List ℕ) (x : ℕ) → EndsWith xs x → EndsWith (k ∷ xs) x

@@ -2,9 +2,9 @@
 use Rattle.std.proofs.Common.{◌≡◌, ◌⊎◌, inl, inr, ℕ, List, Option, None, Some, Result, Ok, Err, refl, sym, ap, ◌∙◌, subst}
 use Rattle.std.specs.Prelude.{IfErr, IfOk, OnOk, option_map}
 use Rattle.dslx_token.specs.Lexeme.{Lexeme}
-use Rattle.ir_token.specs.Tokens.{AreIrTokens, IsCutOffAt, IsTokenRefusal}
+use Rattle.ir_builder.specs.Token.Tokens.{AreIrTokens, IsCutOffAt, IsTokenRefusal}
 use Rattle.ir_tree.specs.declared.package.Package.{Package}
-use Rattle.ir_verify.specs.Verified.{IsVerified, first_fault}
+use Rattle.ir_tree.specs.Rules.Verified.{IsVerified, first_fault}
 use Rattle.xb_span.specs.Fault.{error_of}
 use Rattle.xb_span.specs.declared.fault.Fault.{Fault}
 use Rattle.xb_span.specs.declared.limit.Limit.{Limit}

@@ -1,13 +1,13 @@
 -- Tokens are those of one package at most.
 use Rattle.std.proofs.Common.{◌≡◌, ℕ, zero, suc, ◌<◌, ◌≤◌, Option, length, arith, ◌∷◌, List, ◌++◌, [], refl, ap, sym, ◌∙◌, subst}
 use Rattle.std.specs.Prelude.{Result, Ok, Err, None, Some, IfOk, IfSome, slice_get}
-use Rattle.grammar.specs.declared.table.Symbol.{Symbol}
-use Rattle.grammar.specs.Derivation.{Derives, IsDerivation, IsSentence, start_of}
-use Rattle.grammar.specs.Steps.{steps_of}
-use Rattle.grammar.specs.declared.bottom_up.Step.{Step}
-use Rattle.grammar.specs.Syntax.{Rule}
-use Rattle.grammar.specs.Tree.{Forest, Grows, IsParseTree, leaves_of, productions_of}
-use Rattle.ir_token.specs.Rules.Ir.{ir}
+use Rattle.base.specs.declared.grammar.table.Symbol.{Symbol}
+use Rattle.base.specs.Grammar.Derivation.{Derives, IsDerivation, IsSentence, start_of}
+use Rattle.base.specs.Grammar.Steps.{steps_of}
+use Rattle.base.specs.declared.grammar.bottom_up.Step.{Step}
+use Rattle.base.specs.Grammar.Syntax.{Rule}
+use Rattle.base.specs.Grammar.Tree.{Forest, Grows, IsParseTree, leaves_of, productions_of}
+use Rattle.ir_builder.specs.Token.Rules.Ir.{ir}
 use Rattle.dslx_token.specs.Lexeme.{Lexeme}
 use Rattle.xb_span.specs.declared.limit.Limit.{Limit}
 use Rattle.xb_span.specs.declared.limit.What.TheVariants.{Nesting}

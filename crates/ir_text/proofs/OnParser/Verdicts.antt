@@ -10,13 +10,13 @@ use Rattle.ir_tree.specs.declared.node.Node.{Node}
 use Rattle.ir_tree.specs.declared.package.Channel.{Channel}
 use Rattle.ir_tree.specs.declared.package.Package.{Package}
 use Rattle.ir_tree.specs.declared.package.Proc.{Proc}
-use Rattle.ir_verify.specs.declared.line_spans.LineSpans.{LineSpans}
-use Rattle.ir_verify.specs.declared.line_spans.ProcSpans.{ProcSpans}
-use Rattle.ir_verify.specs.Checks.{Check, limit_at, note, noted}
-use Rattle.ir_verify.specs.Lines.{Seen, see, channel_checks, head_checks, next_checks, node_checks, own_levels, type_limits}
+use Rattle.ir_tree.specs.declared.rules.line_spans.LineSpans.{LineSpans}
+use Rattle.ir_tree.specs.declared.rules.line_spans.ProcSpans.{ProcSpans}
+use Rattle.ir_tree.specs.Rules.Checks.{Check, limit_at, note, noted}
+use Rattle.ir_tree.specs.Rules.Lines.{Seen, see, channel_checks, head_checks, next_checks, node_checks, own_levels, type_limits}
 use Rattle.ir_tree.specs.NodeTypes.Types.{widths_in}
 use Rattle.ir_tree.specs.NodeValues.{role_of}
-use Rattle.ir_verify.specs.Verified.{IsVerified, at_start, channels_checks, checks_of, first_fault, nodes_checks, nothing_seen, nowhere_at_all, nowhere_proc, proc_checks, procs_checks, seen_after}
+use Rattle.ir_tree.specs.Rules.Verified.{IsVerified, at_start, channels_checks, checks_of, first_fault, nodes_checks, nothing_seen, nowhere_at_all, nowhere_proc, proc_checks, procs_checks, seen_after}
 use Rattle.std.specs.Prelude.{get_or, if◌then◌else◌}
 
 -- The two lists of checks say the same of what is broken.

@@ -5,9 +5,9 @@ use Rattle.std.proofs.lemmas.Bool.{and_left, and_parts, cond_both, cond-false, c
 use Rattle.std.proofs.lemmas.Bool.Decides.{nat_tests}
 use Rattle.std.proofs.lemmas.Slice.Eq.{bytes_eq-Decides}
 use Rattle.xb_value.specs.Text.{listed}
-use Rattle.grammar.specs.declared.table.Symbol.{Symbol}
-use Rattle.grammar.specs.declared.table.Symbol.TheVariants.{Terminal, Nonterminal}
-use Rattle.grammar.specs.Derivation.{IsRule}
+use Rattle.base.specs.declared.grammar.table.Symbol.{Symbol}
+use Rattle.base.specs.declared.grammar.table.Symbol.TheVariants.{Terminal, Nonterminal}
+use Rattle.base.specs.Grammar.Derivation.{IsRule}
 use Rattle.delay_model.specs.declared.op.Op.{Op}
 use Rattle.delay_model.specs.Names.{name_of, op_named}
 use Rattle.delay_model.specs.Signatures.{attribute_kind_of}
@@ -15,12 +15,12 @@ use Rattle.delay_model.proofs.Lemmas.Naming.{named_by_name}
 use Rattle.xb_span.specs.declared.nesting.bracket_class.BracketClass.TheVariants.{Plain}
 use Rattle.dslx_token.specs.Blank.{after_blank}
 use Rattle.dslx_token.specs.Lexeme.{Lexeme}
-use Rattle.ir_token.specs.declared.rules.generated.kind.TheConstants as kinds
-use Rattle.ir_token.specs.declared.rules.generated.nonterminal.TheConstants as nonterminals
-use Rattle.ir_token.specs.declared.rules.generated.production.TheConstants as productions
-use Rattle.ir_token.specs.Rules.Ir.{ir}
-use Rattle.ir_token.specs.Rules.Rules.{named_rules}
-use Rattle.ir_token.specs.Kinds.{Context, class_by, class_of, id_part, ir_plain_kind, kind_in, op_part}
+use Rattle.ir_builder.specs.declared.token.rules.generated.kind.TheConstants as kinds
+use Rattle.ir_builder.specs.declared.token.rules.generated.nonterminal.TheConstants as nonterminals
+use Rattle.ir_builder.specs.declared.token.rules.generated.production.TheConstants as productions
+use Rattle.ir_builder.specs.Token.Rules.Ir.{ir}
+use Rattle.ir_builder.specs.Token.Rules.Rules.{named_rules}
+use Rattle.ir_builder.specs.Token.Kinds.{Context, class_by, class_of, id_part, ir_plain_kind, kind_in, op_part}
 use Rattle.ir_tree.specs.declared.constant.Constant.{Constant}
 use Rattle.ir_tree.specs.declared.node.Attributes.{Attributes}
 use Rattle.ir_tree.specs.declared.node.Attributes.TheVariants as attributes

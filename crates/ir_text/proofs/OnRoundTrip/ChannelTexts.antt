@@ -5,12 +5,12 @@ use Rattle.std.proofs.lemmas.Bool.{cond-false, cond-true}
 use Rattle.std.proofs.lemmas.Bool.Decides.{nat_tests}
 use Rattle.xb_span.specs.declared.span.Span.{Span}
 use Rattle.dslx_token.specs.Blank.{after_blank}
-use Rattle.ir_token.specs.declared.rules.generated.kind.TheConstants as kinds
-use Rattle.ir_token.specs.declared.rules.generated.nonterminal.TheConstants as nonterminals
-use Rattle.ir_token.specs.declared.rules.generated.production.TheConstants as productions
-use Rattle.ir_token.specs.Rules.Ir.{ir}
-use Rattle.ir_token.specs.Rules.Rules.{named_rules}
-use Rattle.ir_token.specs.Kinds.{Context, ir_plain_kind, kind_in}
+use Rattle.ir_builder.specs.declared.token.rules.generated.kind.TheConstants as kinds
+use Rattle.ir_builder.specs.declared.token.rules.generated.nonterminal.TheConstants as nonterminals
+use Rattle.ir_builder.specs.declared.token.rules.generated.production.TheConstants as productions
+use Rattle.ir_builder.specs.Token.Rules.Ir.{ir}
+use Rattle.ir_builder.specs.Token.Rules.Rules.{named_rules}
+use Rattle.ir_builder.specs.Token.Kinds.{Context, ir_plain_kind, kind_in}
 use Rattle.ir_tree.specs.declared.package.Channel.{Channel}
 use Rattle.ir_tree.specs.declared.package.Ends.{Ends}
 use Rattle.ir_tree.specs.declared.package.Ends.TheVariants as ends

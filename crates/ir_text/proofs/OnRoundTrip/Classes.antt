@@ -3,8 +3,8 @@ use Rattle.std.proofs.Common.{◌≡◌, List, ◌&&◌, IsTrue, refl}
 use Rattle.delay_model.specs.declared.op.Op.{Op}
 use Rattle.delay_model.specs.declared.op.Op.TheVariants as op
 use Rattle.delay_model.specs.Signatures.{attribute_kind_of}
-use Rattle.ir_token.specs.declared.rules.generated.kind.TheConstants as kinds
-use Rattle.ir_token.specs.Kinds.{class_by}
+use Rattle.ir_builder.specs.declared.token.rules.generated.kind.TheConstants as kinds
+use Rattle.ir_builder.specs.Token.Kinds.{class_by}
 use Rattle.ir_tree.specs.declared.ir_type.IrType.{IrType}
 use Rattle.ir_tree.specs.declared.node.Attributes.{Attributes}
 use Rattle.ir_tree.specs.declared.node.Attributes.TheVariants as attributes
@@ -13,8 +13,8 @@ use Rattle.ir_tree.specs.declared.node.Operand.{Operand}
 use Rattle.ir_tree.specs.declared.package.Channel.{Channel}
 use Rattle.ir_tree.specs.NodeValues.{channel_type}
 use Rattle.std.specs.Prelude.{Option}
-use Rattle.ir_verify.specs.Fitting.{Types, dynamic_fits, extend_fits, first_is_token, index_fits, is_bit_slice, is_dynamic_bit_slice, is_extend, is_literal, is_sel, is_tuple_index, plain_fits, predicate_fits, sel_fits, site_fits, slice_fits, tuple_index_fits, types_fit}
-use Rattle.ir_verify.proofs.Lemmas.Typed.Checked.{both_true}
+use Rattle.ir_tree.specs.Rules.Fitting.{Types, dynamic_fits, extend_fits, first_is_token, index_fits, is_bit_slice, is_dynamic_bit_slice, is_extend, is_literal, is_sel, is_tuple_index, plain_fits, predicate_fits, sel_fits, site_fits, slice_fits, tuple_index_fits, types_fit}
+use Rattle.ir_tree.proofs.Lemmas.Rules.Typed.Checked.{both_true}
 use Rattle.ir_text.proofs.OnRoundTrip.Calls.{class_like}
 
 plain_class : (o : Op) (scope : Types) (os : List Operand) (t : IrType) → IsTrue (plain_fits o scope os t) → class_by (attribute_kind_of o) ≡ kinds.PLAIN

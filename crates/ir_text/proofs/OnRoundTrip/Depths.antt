@@ -16,16 +16,16 @@ use Rattle.ir_tree.specs.declared.constant.Constant.{Constant, out-Constant}
 use Rattle.ir_tree.specs.declared.constant.Constant as constants
 use Rattle.ir_tree.specs.declared.constant.Constant.TheViews.{outs-Tuple, outs-Array}
 use Rattle.ir_tree.specs.Types.{arrays_of, bounded, ty_of}
-use Rattle.ir_verify.specs.Checks.{limit_at}
+use Rattle.ir_tree.specs.Rules.Checks.{limit_at}
 use Rattle.ir_tree.specs.NodeTypes.Constants.{array_fits, constant_fits, each_fits, number_fits, tuple_fits}
-use Rattle.ir_verify.specs.Lines.{type_limits}
+use Rattle.ir_tree.specs.Rules.Lines.{type_limits}
 use Rattle.ir_tree.specs.NodeTypes.Types.{levels_of, levels_step, max_of, widths_in}
 use Rattle.ir_tree.proofs.Lemmas.NodeTypes.ConstantCases.{fits-Bits, fits-Tuple, fits-Array}
 use Rattle.ir_tree.proofs.Lemmas.NodeTypes.IrTypes as types
 use Rattle.ir_tree.proofs.Lemmas.NodeTypes.IrTypes.{ty_of-Bits, ty_of-Token, ty_of-Tuple}
-use Rattle.ir_verify.specs.Typed.Typed.{none_broken}
-use Rattle.ir_verify.proofs.Lemmas.Typed.Checked.{both_true, parts_not}
-use Rattle.ir_verify.proofs.Lemmas.Typed.Tests.{type_induction}
+use Rattle.ir_tree.specs.Rules.Typed.Typed.{none_broken}
+use Rattle.ir_tree.proofs.Lemmas.Rules.Typed.Checked.{both_true, parts_not}
+use Rattle.ir_tree.proofs.Lemmas.Rules.Typed.Tests.{type_induction}
 use Rattle.ir_text.proofs.OnRoundTrip.TypeTexts.{nesting_step, type_nesting}
 use Rattle.ir_text.proofs.OnRoundTrip.ValueTexts as values
 use Rattle.ir_text.proofs.OnRoundTrip.ValueTexts.{constant_induction, constant_nesting, constant_nesting_step}

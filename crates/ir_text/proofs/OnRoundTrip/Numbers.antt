@@ -3,13 +3,13 @@ use Rattle.std.proofs.Common.{◌≡◌, ◌<◌, ℕ, ◌-◌, ◌^◌, min, Bo
 use Rattle.std.specs.Prelude.{◌==◌, nat_lt, if◌then◌else◌}
 use Rattle.std.proofs.lemmas.Bool.{cond-true, cond-false}
 use Rattle.dslx_token.specs.Blank.{after_blank}
-use Rattle.ir_token.specs.declared.rules.generated.kind.TheConstants as kinds
-use Rattle.ir_token.specs.declared.rules.generated.nonterminal.TheConstants as nonterminals
-use Rattle.ir_token.specs.declared.rules.generated.production.TheConstants as productions
-use Rattle.ir_token.specs.Rules.Ir.{ir}
-use Rattle.ir_token.specs.Rules.Rules.{named_rules}
-use Rattle.ir_token.specs.Kinds.{Context, ir_plain_kind, kind_in}
-use Rattle.ir_token.specs.Said.{number_said, small_said}
+use Rattle.ir_builder.specs.declared.token.rules.generated.kind.TheConstants as kinds
+use Rattle.ir_builder.specs.declared.token.rules.generated.nonterminal.TheConstants as nonterminals
+use Rattle.ir_builder.specs.declared.token.rules.generated.production.TheConstants as productions
+use Rattle.ir_builder.specs.Token.Rules.Ir.{ir}
+use Rattle.ir_builder.specs.Token.Rules.Rules.{named_rules}
+use Rattle.ir_builder.specs.Token.Kinds.{Context, ir_plain_kind, kind_in}
+use Rattle.ir_builder.specs.Token.Said.{number_said, small_said}
 use Rattle.ir_builder.specs.declared.state.State.{State}
 use Rattle.ir_text.proofs.OnRoundTrip.Walks.{a_tree, Goes, Point, stays, token_then}
 use Rattle.ir_text.proofs.OnRoundTrip.Words.{ends_words, number_prefix_is, number_kind, number_shown, number_value}

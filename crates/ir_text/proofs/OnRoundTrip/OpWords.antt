@@ -11,10 +11,10 @@ use Rattle.delay_model.specs.declared.op.Op.{Op}
 use Rattle.delay_model.specs.declared.op.TheConstants.Op.{ALL}
 use Rattle.delay_model.specs.Names.{name_of, op_named}
 use Rattle.delay_model.proofs.Lemmas.Naming.{named_by_name}
-use Rattle.ir_token.specs.declared.rules.generated.kind.TheConstants as kinds
-use Rattle.ir_token.specs.TokenPrefixes.{name_len, word_goes_on}
-use Rattle.ir_token.specs.Kinds.{id_part, ir_plain_kind, ir_word_kind, is_id, is_no_dot, is_op_id, op_part}
-use Rattle.ir_token.specs.Said.{id_said}
+use Rattle.ir_builder.specs.declared.token.rules.generated.kind.TheConstants as kinds
+use Rattle.ir_builder.specs.Token.TokenPrefixes.{name_len, word_goes_on}
+use Rattle.ir_builder.specs.Token.Kinds.{id_part, ir_plain_kind, ir_word_kind, is_id, is_no_dot, is_op_id, op_part}
+use Rattle.ir_builder.specs.Token.Said.{id_said}
 use Rattle.ir_text.proofs.OnRoundTrip.Writable.{is_one_word}
 use Rattle.ir_text.proofs.OnRoundTrip.Words.{digits_go_on, digits_of_decimal, id_is, value_of_decimal}
 

@@ -6,12 +6,12 @@ use Rattle.std.proofs.lemmas.List.{reverse-append}
 use Rattle.std.proofs.lemmas.Bool.{and_parts, and_from}
 use Rattle.std.proofs.lemmas.Bool.Decides.{nat_tests}
 use Rattle.std.proofs.lemmas.List.Folds.{list_all-append, list_all-map}
-use Rattle.grammar.specs.declared.bottom_up.Step.{Step}
-use Rattle.grammar.specs.declared.bottom_up.Step.TheVariants.{Shift, Reduce}
-use Rattle.grammar.specs.Steps.{steps_of}
+use Rattle.base.specs.declared.grammar.bottom_up.Step.{Step}
+use Rattle.base.specs.declared.grammar.bottom_up.Step.TheVariants.{Shift, Reduce}
+use Rattle.base.specs.Grammar.Steps.{steps_of}
 use Rattle.dslx_token.specs.Lexeme.{Lexeme}
 use Rattle.xb_span.specs.declared.read_error.ReadError.{ReadError}
-use Rattle.ir_token.specs.Said.{id_said, number_said}
+use Rattle.ir_builder.specs.Token.Said.{id_said, number_said}
 use Rattle.ir_tree.specs.declared.constant.Constant.{Constant}
 use Rattle.ir_tree.specs.declared.constant.Constant as written
 use Rattle.ir_tree.specs.declared.ir_type.IrType.{IrType, Bits, Token, Tuple}
@@ -22,7 +22,7 @@ use Rattle.ir_tree.specs.declared.node.Node.{Node}
 use Rattle.ir_tree.specs.declared.package.Channel.{Channel}
 use Rattle.ir_tree.specs.declared.package.Package.{Package}
 use Rattle.ir_tree.specs.declared.package.Proc.{Proc}
-use Rattle.ir_verify.specs.Verified.{IsVerified}
+use Rattle.ir_tree.specs.Rules.Verified.{IsVerified}
 use Rattle.ir_tree.proofs.Lemmas.NodeTypes.IrTypes as ty_folds
 use Rattle.ir_builder.proofs.Lemmas.{top_has}
 use Rattle.ir_builder.specs.declared.rule.Rule.{Rule}

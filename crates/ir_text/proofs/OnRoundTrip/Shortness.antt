@@ -16,7 +16,7 @@ use Rattle.ir_tree.specs.declared.node.Operand.{Operand}
 use Rattle.ir_tree.specs.declared.package.Channel.{Channel}
 use Rattle.ir_tree.specs.declared.package.Proc.{Proc}
 use Rattle.ir_tree.proofs.Lemmas.NodeTypes.IrTypes as types
-use Rattle.ir_verify.proofs.Lemmas.Typed.Tests.{type_induction}
+use Rattle.ir_tree.proofs.Lemmas.Rules.Typed.Tests.{type_induction}
 use Rattle.ir_text.specs.Printer.Parts.{constant_step, constant_text, node_name, operand_text, operands_text, sizes_text, type_step, type_text}
 use Rattle.ir_text.specs.Printer.Lines.{attributes_text, channel_id, channel_kind, channel_start, channel_text, default_text, lines_text, node_call, node_end, node_start, node_text, proc_end, proc_init, proc_start, proc_text}
 use Rattle.ir_text.specs.RoundTrip.InRange.{all_true, attributes_in_range, constant_in_range, constant_range_step, is_held, node_in_range, type_in_range, type_range_step}

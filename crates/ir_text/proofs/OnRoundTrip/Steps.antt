@@ -1,14 +1,14 @@
 -- The steps of walks over printed texts: a word with a kind of its own, a mark, a rule, and a tree that is complete.
 use Rattle.std.proofs.Common.{◌≡◌, ℕ, suc, true, List, [], ◌∷◌, ◌++◌, codes, Some, refl, sym, ap, subst, ◌∙◌}
-use Rattle.grammar.specs.declared.table.Symbol.{Symbol}
-use Rattle.grammar.specs.Derivation.{IsRule}
+use Rattle.base.specs.declared.grammar.table.Symbol.{Symbol}
+use Rattle.base.specs.Grammar.Derivation.{IsRule}
 use Rattle.xb_span.specs.declared.nesting.bracket_class.BracketClass.{BracketClass}
 use Rattle.xb_span.specs.declared.nesting.bracket_class.BracketClass.TheVariants.{Open, Close, Plain}
 use Rattle.dslx_token.specs.Blank.{after_blank}
-use Rattle.ir_token.specs.declared.rules.generated.kind.TheConstants as kinds
-use Rattle.ir_token.specs.Rules.Ir.{ir}
-use Rattle.ir_token.specs.TokenPrefixes.{token_prefix}
-use Rattle.ir_token.specs.Kinds.{Context, ir_plain_kind, ir_word_kind, kind_in}
+use Rattle.ir_builder.specs.declared.token.rules.generated.kind.TheConstants as kinds
+use Rattle.ir_builder.specs.Token.Rules.Ir.{ir}
+use Rattle.ir_builder.specs.Token.TokenPrefixes.{token_prefix}
+use Rattle.ir_builder.specs.Token.Kinds.{Context, ir_plain_kind, ir_word_kind, kind_in}
 use Rattle.ir_builder.specs.declared.state.State.{State}
 use Rattle.ir_builder.specs.Building.{reduced, rule_of}
 use Rattle.ir_text.specs.Parser.BracketClasses.{role_of}

@@ -8,17 +8,17 @@ use Rattle.std.proofs.lemmas.List.{drop_at, length-map, take_at}
 use Rattle.xb_value.specs.Text.{listed}
 use Rattle.xb_value.proofs.Lemmas.Types.{EachHas}
 use Rattle.dslx_token.specs.Blank.{after_blank}
-use Rattle.ir_token.specs.declared.rules.generated.nonterminal.TheConstants as nonterminals
-use Rattle.ir_token.specs.declared.rules.generated.production.TheConstants as productions
-use Rattle.ir_token.specs.Rules.Ir.{ir}
-use Rattle.ir_token.specs.Rules.Rules.{named_rules}
-use Rattle.ir_token.specs.Kinds.{Context}
+use Rattle.ir_builder.specs.declared.token.rules.generated.nonterminal.TheConstants as nonterminals
+use Rattle.ir_builder.specs.declared.token.rules.generated.production.TheConstants as productions
+use Rattle.ir_builder.specs.Token.Rules.Ir.{ir}
+use Rattle.ir_builder.specs.Token.Rules.Rules.{named_rules}
+use Rattle.ir_builder.specs.Token.Kinds.{Context}
 use Rattle.ir_tree.specs.declared.ir_type.IrType.{IrType, Bits, Token, Tuple, fold-IrType}
 use Rattle.ir_tree.specs.declared.ir_type.IrType.TheOpen.{IrType-F}
 use Rattle.ir_tree.specs.declared.ir_type.IrType.TheViews.{outs-Bits, outs-Token, outs-Tuple}
 use Rattle.ir_tree.specs.NodeTypes.Types.{max_of}
 use Rattle.ir_tree.proofs.Lemmas.NodeTypes.IrTypes.{fold-Bits, fold-Token, fold-Tuple}
-use Rattle.ir_verify.proofs.Lemmas.Typed.Tests.{type_induction}
+use Rattle.ir_tree.proofs.Lemmas.Rules.Typed.Tests.{type_induction}
 use Rattle.ir_text.specs.Printer.Parts.{sizes_text, type_step, type_text}
 use Rattle.ir_builder.specs.declared.state.State.{State}
 use Rattle.ir_builder.specs.Rules.{sized, sized_step}

@@ -5,11 +5,11 @@ use Rattle.std.proofs.lemmas.List.{length-map}
 use Rattle.xb_value.specs.Text.{listed}
 use Rattle.xb_value.proofs.Lemmas.Types.{EachHas, each_of}
 use Rattle.dslx_token.specs.Blank.{after_blank}
-use Rattle.ir_token.specs.declared.rules.generated.nonterminal.TheConstants as nonterminals
-use Rattle.ir_token.specs.declared.rules.generated.production.TheConstants as productions
-use Rattle.ir_token.specs.Rules.Ir.{ir}
-use Rattle.ir_token.specs.Rules.Rules.{named_rules}
-use Rattle.ir_token.specs.Kinds.{Context}
+use Rattle.ir_builder.specs.declared.token.rules.generated.nonterminal.TheConstants as nonterminals
+use Rattle.ir_builder.specs.declared.token.rules.generated.production.TheConstants as productions
+use Rattle.ir_builder.specs.Token.Rules.Ir.{ir}
+use Rattle.ir_builder.specs.Token.Rules.Rules.{named_rules}
+use Rattle.ir_builder.specs.Token.Kinds.{Context}
 use Rattle.ir_tree.specs.declared.constant.Constant.{Constant, Number, Tuple, Array, fold-Constant}
 use Rattle.ir_tree.specs.declared.constant.Constant.TheVariants.{rolls-Number, rolls-Tuple, rolls-Array}
 use Rattle.ir_tree.specs.declared.constant.Constant.TheOpen.{Constant-F}

@@ -23,12 +23,12 @@ use Rattle.ir_tree.specs.declared.package.Channel.{Channel}
 use Rattle.ir_tree.specs.NodeValues.{channel_type, role_by, role_of}
 use Rattle.ir_tree.specs.Types.{ty_of}
 use Rattle.ir_tree.specs.NodeTypes.Constants.{constant_fits}
-use Rattle.ir_verify.specs.Fitting.{Types, first_is_token, node_fits, predicate_fits, site_fits, types_behind, types_fit}
-use Rattle.ir_verify.specs.Lines.{Seen, are_there, attributes_there, is_at_end, is_chained, is_free, is_id_after, is_literal_of, is_named, is_there, is_there_if, is_typed, may_receive, may_send, node_checks, own_levels, see, type_limits}
+use Rattle.ir_tree.specs.Rules.Fitting.{Types, first_is_token, node_fits, predicate_fits, site_fits, types_behind, types_fit}
+use Rattle.ir_tree.specs.Rules.Lines.{Seen, are_there, attributes_there, is_at_end, is_chained, is_free, is_id_after, is_literal_of, is_named, is_there, is_there_if, is_typed, may_receive, may_send, node_checks, own_levels, see, type_limits}
 use Rattle.ir_tree.specs.NodeTypes.Types.{levels_of, marks_of}
-use Rattle.ir_verify.specs.Verified.{nodes_checks}
-use Rattle.ir_verify.specs.Typed.Typed.{none_broken}
-use Rattle.ir_verify.proofs.Lemmas.Typed.Checked.{both_true, not_not_true, parts_not}
+use Rattle.ir_tree.specs.Rules.Verified.{nodes_checks}
+use Rattle.ir_tree.specs.Rules.Typed.Typed.{none_broken}
+use Rattle.ir_tree.proofs.Lemmas.Rules.Typed.Checked.{both_true, not_not_true, parts_not}
 use Rattle.ir_text.specs.Printer.Parts.{node_name}
 use Rattle.ir_builder.specs.Named.{index_in}
 use Rattle.ir_text.proofs.OnRoundTrip.Held.{attributes_held, is_short, node_held, type_held}

@@ -17,17 +17,17 @@ use Rattle.ir_tree.specs.declared.package.Proc.{Proc}
 use Rattle.ir_tree.specs.Activations.{sites_of}
 use Rattle.ir_tree.specs.Networks.{chan_of}
 use Rattle.ir_tree.specs.Types.{ty_of}
-use Rattle.ir_verify.specs.declared.line_spans.ProcSpans.{ProcSpans}
-use Rattle.ir_verify.specs.Checks.{Check, bounded}
+use Rattle.ir_tree.specs.declared.rules.line_spans.ProcSpans.{ProcSpans}
+use Rattle.ir_tree.specs.Rules.Checks.{Check, bounded}
 use Rattle.ir_tree.specs.NodeTypes.Constants.{constant_fits}
-use Rattle.ir_verify.specs.Fitting.{type_in, types_behind}
-use Rattle.ir_verify.specs.Lines.{Seen, channel_checks, depth_in, head_checks, is_among, is_channel_named, is_channel_typed, is_name, is_named_well, is_proc_named, is_state, is_there, is_value_of, next_checks, package_checks, type_limits}
+use Rattle.ir_tree.specs.Rules.Fitting.{type_in, types_behind}
+use Rattle.ir_tree.specs.Rules.Lines.{Seen, channel_checks, depth_in, head_checks, is_among, is_channel_named, is_channel_typed, is_name, is_named_well, is_proc_named, is_state, is_there, is_value_of, next_checks, package_checks, type_limits}
 use Rattle.ir_tree.specs.NodeTypes.Types.{marks_of, same_type}
-use Rattle.ir_verify.specs.Verified.{IsVerified, at_start, channels_checks, checks_of, count_check, first_fault, nodes_checks, nothing_seen, nowhere_at_all, nowhere_proc, proc_checks, procs_checks, seen_after}
-use Rattle.ir_verify.specs.Typed.Typed.{none_broken}
-use Rattle.ir_verify.proofs.Lemmas.Typed.Checked.{both_true, none_noted, not_not_true, parts_not}
-use Rattle.ir_verify.proofs.Lemmas.Typed.{network_fits}
-use Rattle.ir_verify.proofs.Lemmas.Typed.Tests.{nat_same}
+use Rattle.ir_tree.specs.Rules.Verified.{IsVerified, at_start, channels_checks, checks_of, count_check, first_fault, nodes_checks, nothing_seen, nowhere_at_all, nowhere_proc, proc_checks, procs_checks, seen_after}
+use Rattle.ir_tree.specs.Rules.Typed.Typed.{none_broken}
+use Rattle.ir_tree.proofs.Lemmas.Rules.Typed.Checked.{both_true, none_noted, not_not_true, parts_not}
+use Rattle.ir_tree.proofs.Lemmas.Rules.Typed.{network_fits}
+use Rattle.ir_tree.proofs.Lemmas.Rules.Typed.Tests.{nat_same}
 use Rattle.ir_text.specs.Printer.Lines.{channel_text, lines_text, package_text, proc_text}
 use Rattle.ir_builder.specs.Building.{package_of, spanned_of, spans_of}
 use Rattle.ir_text.specs.Parser.Texts.{GivesPackage, accepted}

@@ -4,28 +4,28 @@ use Rattle.std.specs.List.{position_from}
 use Rattle.std.proofs.lemmas.Bool.{cond-false}
 use Rattle.std.proofs.lemmas.Bool.Decides.{nat_tests}
 use Rattle.std.proofs.lemmas.List.Sums.{sum_by-cons}
-use Rattle.grammar.specs.declared.table.Symbol.{Symbol}
-use Rattle.grammar.specs.declared.table.Symbol.TheVariants.{Terminal, Nonterminal}
-use Rattle.grammar.specs.declared.bottom_up.Step.{Step}
-use Rattle.grammar.specs.declared.bottom_up.Step.TheVariants.{Shift, Reduce}
-use Rattle.grammar.specs.Derivation.{IsRule}
-use Rattle.grammar.specs.Steps.{steps_of}
-use Rattle.grammar.specs.Tree.{Forest, Grows, leaves_of, productions_of}
-use Rattle.grammar.specs.Tree.Forest.{nothing, token, node}
-use Rattle.grammar.specs.Tree.Grows.{empty, leaf, branch}
+use Rattle.base.specs.declared.grammar.table.Symbol.{Symbol}
+use Rattle.base.specs.declared.grammar.table.Symbol.TheVariants.{Terminal, Nonterminal}
+use Rattle.base.specs.declared.grammar.bottom_up.Step.{Step}
+use Rattle.base.specs.declared.grammar.bottom_up.Step.TheVariants.{Shift, Reduce}
+use Rattle.base.specs.Grammar.Derivation.{IsRule}
+use Rattle.base.specs.Grammar.Steps.{steps_of}
+use Rattle.base.specs.Grammar.Tree.{Forest, Grows, leaves_of, productions_of}
+use Rattle.base.specs.Grammar.Tree.Forest.{nothing, token, node}
+use Rattle.base.specs.Grammar.Tree.Grows.{empty, leaf, branch}
 use Rattle.xb_span.specs.declared.nesting.bracket_class.BracketClass.{BracketClass}
 use Rattle.xb_span.specs.declared.nesting.bracket_class.BracketClass.TheVariants.{Open, Close, Plain}
 use Rattle.xb_span.specs.Nesting.Nesting.{Around, depth_of, is_past, nestings_from}
 use Rattle.dslx_token.specs.Blank.{after_blank}
 use Rattle.dslx_token.specs.Lexeme.{Lexeme}
 use Rattle.dslx_token.specs.Tokens.{offset_of}
-use Rattle.ir_token.specs.declared.rules.generated.kind.TheConstants as kinds
-use Rattle.ir_token.specs.declared.rules.generated.nonterminal.TheConstants as nonterminals
-use Rattle.ir_token.specs.Rules.Ir.{ir}
-use Rattle.ir_token.specs.TokenPrefixes.{token_prefix}
-use Rattle.ir_token.specs.Kinds.{Context, context_behind, ir_plain_kind, kind_in, no_context, settled_in}
-use Rattle.ir_token.specs.Tokens.{ir_lexeme_at, IsCutInto}
-use Rattle.ir_token.specs.Tokens.IsCutInto.{ends, goes}
+use Rattle.ir_builder.specs.declared.token.rules.generated.kind.TheConstants as kinds
+use Rattle.ir_builder.specs.declared.token.rules.generated.nonterminal.TheConstants as nonterminals
+use Rattle.ir_builder.specs.Token.Rules.Ir.{ir}
+use Rattle.ir_builder.specs.Token.TokenPrefixes.{token_prefix}
+use Rattle.ir_builder.specs.Token.Kinds.{Context, context_behind, ir_plain_kind, kind_in, no_context, settled_in}
+use Rattle.ir_builder.specs.Token.Tokens.{ir_lexeme_at, IsCutInto}
+use Rattle.ir_builder.specs.Token.Tokens.IsCutInto.{ends, goes}
 use Rattle.ir_builder.specs.declared.state.State.{State}
 use Rattle.ir_builder.specs.Building.{built, spanned_of, reduced, rule_of, shifted}
 use Rattle.ir_builder.specs.Empty.{empty as nothing_built}

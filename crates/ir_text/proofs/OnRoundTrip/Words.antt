@@ -11,9 +11,9 @@ use Rattle.std.proofs.lemmas.List.Folds.{list_all-append}
 use Rattle.base.specs.Texts.Words.{begins_word, is_word_byte}
 use Rattle.dslx_token.specs.Blank.{after_blank}
 use Rattle.dslx_token.specs.Characters.{is_white}
-use Rattle.ir_token.specs.declared.rules.generated.kind.TheConstants as kinds
-use Rattle.ir_token.specs.TokenPrefixes.{begins_hexadecimal, digits_len, name_len, number_prefix, token_prefix, value_of_number, word_goes_on}
-use Rattle.ir_token.specs.Kinds.{ir_number_kind, ir_plain_kind, is_id}
+use Rattle.ir_builder.specs.declared.token.rules.generated.kind.TheConstants as kinds
+use Rattle.ir_builder.specs.Token.TokenPrefixes.{begins_hexadecimal, digits_len, name_len, number_prefix, token_prefix, value_of_number, word_goes_on}
+use Rattle.ir_builder.specs.Token.Kinds.{ir_number_kind, ir_plain_kind, is_id}
 use Rattle.ir_text.proofs.OnRoundTrip.Writable.{is_one_word}
 use Rattle.ir_text.proofs.OnRoundTrip.Walks.{IsPrefix}
 

@@ -10,16 +10,16 @@ use Rattle.xb_span.specs.declared.limit.What.TheVariants as what
 use Rattle.xb_span.specs.declared.span.Span.{Span}
 use Rattle.xb_span.specs.Spans.{nowhere}
 use Rattle.base.specs.Texts.Words.{begins_word}
-use Rattle.ir_token.specs.TokenPrefixes.{name_len, word_goes_on}
+use Rattle.ir_builder.specs.Token.TokenPrefixes.{name_len, word_goes_on}
 use Rattle.ir_tree.specs.declared.package.Channel.{Channel}
 use Rattle.ir_tree.specs.declared.package.Package.{Package}
 use Rattle.ir_tree.specs.declared.package.Proc.{Proc}
-use Rattle.ir_verify.specs.declared.line_spans.ProcSpans.{ProcSpans}
-use Rattle.ir_verify.specs.Checks.{Check}
-use Rattle.ir_verify.specs.Lines.{Seen, all_go_on, channel_checks, head_checks, is_among, is_channel_named, is_name, is_named_well, is_package_named, is_plain, is_proc_named, is_some_proc, package_checks}
-use Rattle.ir_verify.specs.Verified.{IsVerified, at_start, channels_checks, checks_of, count_check, first_fault, nothing_seen, nowhere_at_all, nowhere_proc, proc_checks, procs_checks, seen_after}
-use Rattle.ir_verify.specs.Typed.Typed.{none_broken}
-use Rattle.ir_verify.proofs.Lemmas.Typed.Checked.{and_true, both_true, none_noted, not_not_true, parts_not}
+use Rattle.ir_tree.specs.declared.rules.line_spans.ProcSpans.{ProcSpans}
+use Rattle.ir_tree.specs.Rules.Checks.{Check}
+use Rattle.ir_tree.specs.Rules.Lines.{Seen, all_go_on, channel_checks, head_checks, is_among, is_channel_named, is_name, is_named_well, is_package_named, is_plain, is_proc_named, is_some_proc, package_checks}
+use Rattle.ir_tree.specs.Rules.Verified.{IsVerified, at_start, channels_checks, checks_of, count_check, first_fault, nothing_seen, nowhere_at_all, nowhere_proc, proc_checks, procs_checks, seen_after}
+use Rattle.ir_tree.specs.Rules.Typed.Typed.{none_broken}
+use Rattle.ir_tree.proofs.Lemmas.Rules.Typed.Checked.{and_true, both_true, none_noted, not_not_true, parts_not}
 use Rattle.ir_text.specs.RoundTrip.InRange.{IsInRange, channel_in_range, constant_in_range, node_in_range, proc_in_range, type_in_range}
 
 -- the whole of it is one word

@@ -21,11 +21,11 @@ use Rattle.ir_tree.specs.declared.node.Node.{Node}
 use Rattle.ir_tree.specs.declared.package.Channel.{Channel}
 use Rattle.ir_tree.specs.declared.package.Package.{Package}
 use Rattle.ir_tree.specs.declared.package.Proc.{Proc}
-use Rattle.ir_verify.specs.Checks.{Check, limit_at, note, noted}
-use Rattle.ir_verify.specs.Lines.{Seen, channel_checks, head_checks, next_checks, node_checks, own_levels, package_checks, see, type_limits}
-use Rattle.ir_verify.specs.Verified.{at_start, channels_checks, checks_of, count_check, first_fault, last_end, nodes_checks, nothing_seen, nowhere_proc, proc_checks, procs_checks, seen_after}
-use Rattle.ir_verify.specs.declared.line_spans.LineSpans.{LineSpans}
-use Rattle.ir_verify.specs.declared.line_spans.ProcSpans.{ProcSpans}
+use Rattle.ir_tree.specs.Rules.Checks.{Check, limit_at, note, noted}
+use Rattle.ir_tree.specs.Rules.Lines.{Seen, channel_checks, head_checks, next_checks, node_checks, own_levels, package_checks, see, type_limits}
+use Rattle.ir_tree.specs.Rules.Verified.{at_start, channels_checks, checks_of, count_check, first_fault, last_end, nodes_checks, nothing_seen, nowhere_proc, proc_checks, procs_checks, seen_after}
+use Rattle.ir_tree.specs.declared.rules.line_spans.LineSpans.{LineSpans}
+use Rattle.ir_tree.specs.declared.rules.line_spans.ProcSpans.{ProcSpans}
 use Rattle.ir_text.specs.Parser.Texts.{GivesPackage, accepted, cut_off, misplaced, too_deep, faulty}
 use Rattle.ir_text.specs.Parser.Spans.Along.{IsLineSpanIn, IsOneOfLines, of_name, of_channel, of_head, of_node, of_next}
 use Rattle.ir_text.specs.Parser.Spans.Lines.{FollowInTurn}

@@ -2,18 +2,18 @@
 use Rattle.std.proofs.Common.{◌≡◌, ◌≤◌, ℕ, zero, suc, ◌+◌, List, [], ◌∷◌, ◌++◌, length, Some, refl, ap, subst, ◌∙◌, arith, append_assoc, append-nil}
 use Rattle.std.specs.Prelude.{slice_get}
 use Rattle.std.proofs.lemmas.List.{length-append}
-use Rattle.grammar.specs.declared.bottom_up.Step.{Step}
-use Rattle.grammar.specs.declared.bottom_up.Step.TheVariants.{Reduce}
-use Rattle.grammar.specs.declared.table.Symbol.{Symbol}
-use Rattle.grammar.specs.declared.table.Symbol.TheVariants.{Terminal, Nonterminal}
-use Rattle.grammar.specs.Derivation.{IsRule, start_of}
-use Rattle.grammar.specs.Steps.{steps_of}
-use Rattle.grammar.specs.Syntax.{Rule}
-use Rattle.grammar.specs.Tree.{Forest, Grows, leaves_of}
-use Rattle.grammar.specs.Tree.Forest.{nothing, token, node}
-use Rattle.grammar.specs.Tree.Grows.{empty, leaf, branch}
+use Rattle.base.specs.declared.grammar.bottom_up.Step.{Step}
+use Rattle.base.specs.declared.grammar.bottom_up.Step.TheVariants.{Reduce}
+use Rattle.base.specs.declared.grammar.table.Symbol.{Symbol}
+use Rattle.base.specs.declared.grammar.table.Symbol.TheVariants.{Terminal, Nonterminal}
+use Rattle.base.specs.Grammar.Derivation.{IsRule, start_of}
+use Rattle.base.specs.Grammar.Steps.{steps_of}
+use Rattle.base.specs.Grammar.Syntax.{Rule}
+use Rattle.base.specs.Grammar.Tree.{Forest, Grows, leaves_of}
+use Rattle.base.specs.Grammar.Tree.Forest.{nothing, token, node}
+use Rattle.base.specs.Grammar.Tree.Grows.{empty, leaf, branch}
 use Rattle.dslx_token.specs.Lexeme.{Lexeme}
-use Rattle.ir_token.specs.Rules.Ir.{ir}
+use Rattle.ir_builder.specs.Token.Rules.Ir.{ir}
 use Rattle.ir_text.specs.Parser.Reads.{kinds_of}
 use Rattle.ir_text.specs.Parser.Spans.Lines.{AreTokensOf}
 use Rattle.ir_text.proofs.OnSpans.View.{View, shown, viewed}

@@ -2,7 +2,7 @@
 use Rattle.std.proofs.Common.{◌≡◌, ◌≤◌, ◌<◌, ℕ, List, [], ◌∷◌, ◌++◌, sym, subst, ◌∙◌, arith}
 use Rattle.xb_span.specs.declared.span.Span.{Span}
 use Rattle.dslx_token.specs.Lexeme.{Lexeme}
-use Rattle.ir_verify.specs.declared.line_spans.ProcSpans.{ProcSpans}
+use Rattle.ir_tree.specs.declared.rules.line_spans.ProcSpans.{ProcSpans}
 use Rattle.ir_text.specs.Parser.Spans.Along.{AreLinesAlong, AreProcsAlong, AreSpansAlong, AreTokensAlong}
 use Rattle.ir_text.specs.Parser.Spans.Lines.{FollowInTurn, IsSpanOf}
 use Rattle.ir_text.specs.Parser.Spans.Lines as spans

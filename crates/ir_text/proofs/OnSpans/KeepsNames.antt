@@ -1,7 +1,7 @@
 -- What the rules of packages, their channels and procs in turn, names and numbers leave is what those of their symbols do.
 use Rattle.std.proofs.Common.{[], ◌∷◌, ◌++◌, drop, refl, ◌∙◌}
-use Rattle.ir_token.specs.Rules.Ir.{ir}
-use Rattle.ir_token.specs.Rules.Rules.{named_rules}
+use Rattle.ir_builder.specs.Token.Rules.Ir.{ir}
+use Rattle.ir_builder.specs.Token.Rules.Rules.{named_rules}
 use Rattle.ir_text.specs.Parser.Spans.Lines as spans
 use Rattle.ir_text.proofs.OnSpans.Parts.{AllKeep, ◌&◌}
 use Rattle.ir_text.proofs.OnSpans.Pieces.{alone, no_line, one_more_line, only, package_line, package_parts}

@@ -1,7 +1,7 @@
 -- What the rules of what stands in calls leave is what those of their symbols do.
 use Rattle.std.proofs.Common.{◌+◌, min, drop, refl}
-use Rattle.ir_token.specs.Rules.Ir.{ir}
-use Rattle.ir_token.specs.Rules.Rules.{named_rules}
+use Rattle.ir_builder.specs.Token.Rules.Ir.{ir}
+use Rattle.ir_builder.specs.Token.Rules.Rules.{named_rules}
 use Rattle.ir_text.proofs.OnSpans.Parts.{AllKeep, no_rule, ◌&◌}
 use Rattle.ir_text.proofs.OnSpans.Pieces.{here, past_token}
 

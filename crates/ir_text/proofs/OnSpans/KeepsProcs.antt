@@ -1,7 +1,7 @@
 -- What the rules of procs, nodes and calls leave is what those of their symbols do.
 use Rattle.std.proofs.Common.{[], ◌∷◌, drop, refl}
-use Rattle.ir_token.specs.Rules.Ir.{ir}
-use Rattle.ir_token.specs.Rules.Rules.{named_rules}
+use Rattle.ir_builder.specs.Token.Rules.Ir.{ir}
+use Rattle.ir_builder.specs.Token.Rules.Rules.{named_rules}
 use Rattle.ir_text.proofs.OnSpans.Parts.{AllKeep, ◌&◌}
 use Rattle.ir_text.proofs.OnSpans.Pieces.{call_of, here, in_tree, line_of, named_line, no_line, node_line, one_more_line, past_token, past_tree, proc_before, proc_parts, proc_taken}
 

@@ -13,10 +13,10 @@ use Rattle.delay_model.specs.declared.signature.AttributeKind.TheVariants as att
 use Rattle.dslx_token.specs.Blank.{after_blank}
 use Rattle.dslx_token.specs.Lexeme.{Lexeme}
 use Rattle.dslx_token.specs.Spelling.{Spelling, kind_among}
-use Rattle.ir_token.specs.declared.rules.generated.kind.TheConstants.{ASSIGN, COLON, COMMA, END, ID, LARGE, LBRACE, LBRACKET, LPAREN, NAME, OPID, OWN, RBRACE, RBRACKET, RPAREN, SMALL}
-use Rattle.ir_token.specs.TokenPrefixes.{mark_kind, value_of_number}
-use Rattle.ir_token.specs.Kinds.{Context, class_by, class_of, context_behind, id_part, ir_number_kind, ir_plain_kind, ir_word_kind, ir_words, is_op_id, kind_in, no_context, op_part, settled_in}
-use Rattle.ir_token.specs.Tokens.{ends, goes, AreIrTokens, IsCutInto}
+use Rattle.ir_builder.specs.declared.token.rules.generated.kind.TheConstants.{ASSIGN, COLON, COMMA, END, ID, LARGE, LBRACE, LBRACKET, LPAREN, NAME, OPID, OWN, RBRACE, RBRACKET, RPAREN, SMALL}
+use Rattle.ir_builder.specs.Token.TokenPrefixes.{mark_kind, value_of_number}
+use Rattle.ir_builder.specs.Token.Kinds.{Context, class_by, class_of, context_behind, id_part, ir_number_kind, ir_plain_kind, ir_word_kind, ir_words, is_op_id, kind_in, no_context, op_part, settled_in}
+use Rattle.ir_builder.specs.Token.Tokens.{ends, goes, AreIrTokens, IsCutInto}
 use Rattle.ir_builder.specs.Rules.{op_or}
 
 -- ---- kinds

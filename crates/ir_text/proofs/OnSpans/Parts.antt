@@ -1,13 +1,13 @@
 -- What the trees of a symbol's tokens leave, by the symbol's sort.
 use Rattle.std.proofs.Common.{◌≡◌, ◌≤◌, ℕ, zero, suc, ◌+◌, min, List, [], ◌∷◌, ◌++◌, length}
 use Rattle.std.specs.Prelude.{Some, slice_get, slice_index_or}
-use Rattle.grammar.specs.declared.table.Symbol.{Symbol}
-use Rattle.grammar.specs.declared.table.Symbol.TheVariants.{Terminal, Nonterminal}
-use Rattle.grammar.specs.Syntax.{Rule}
+use Rattle.base.specs.declared.grammar.table.Symbol.{Symbol}
+use Rattle.base.specs.declared.grammar.table.Symbol.TheVariants.{Terminal, Nonterminal}
+use Rattle.base.specs.Grammar.Syntax.{Rule}
 use Rattle.xb_span.specs.declared.span.Span.{Span}
 use Rattle.dslx_token.specs.Lexeme.{Lexeme}
-use Rattle.ir_token.specs.declared.rules.generated.kind.TheConstants.{OPID, RBRACE}
-use Rattle.ir_verify.specs.declared.line_spans.ProcSpans.{ProcSpans}
+use Rattle.ir_builder.specs.declared.token.rules.generated.kind.TheConstants.{OPID, RBRACE}
+use Rattle.ir_tree.specs.declared.rules.line_spans.ProcSpans.{ProcSpans}
 use Rattle.ir_builder.specs.Building.{rule_of}
 use Rattle.ir_text.specs.Parser.Spans.Lines.{AreTokensOf, FollowInTurn, IsLineOfForm, IsNamedLine, channel_form, head_form, next_form, node_form, package_form}
 use Rattle.ir_text.proofs.OnRoundTrip.Lists.{onto}

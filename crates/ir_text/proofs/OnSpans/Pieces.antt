@@ -2,14 +2,14 @@
 use Rattle.std.proofs.Common.{◌≡◌, ◌≤◌, ℕ, zero, suc, List, [], ◌∷◌, ◌++◌, length, reverse, take, drop, Some, refl, sym, ap, subst, ◌∙◌, arith, append_assoc, append-nil}
 use Rattle.std.specs.Prelude.{slice_get}
 use Rattle.std.proofs.lemmas.List.{length-append}
-use Rattle.grammar.specs.declared.table.Symbol.{Symbol}
-use Rattle.grammar.specs.declared.table.Symbol.TheVariants.{Nonterminal}
-use Rattle.grammar.specs.Tree.{leaves_of}
-use Rattle.grammar.specs.Tree.Forest.{token}
-use Rattle.grammar.specs.Tree.Grows.{leaf}
+use Rattle.base.specs.declared.grammar.table.Symbol.{Symbol}
+use Rattle.base.specs.declared.grammar.table.Symbol.TheVariants.{Nonterminal}
+use Rattle.base.specs.Grammar.Tree.{leaves_of}
+use Rattle.base.specs.Grammar.Tree.Forest.{token}
+use Rattle.base.specs.Grammar.Tree.Grows.{leaf}
 use Rattle.xb_span.specs.declared.span.Span.{Span}
 use Rattle.dslx_token.specs.Lexeme.{Lexeme}
-use Rattle.ir_token.specs.declared.rules.generated.kind.TheConstants.{OPID, PACKAGE}
+use Rattle.ir_builder.specs.declared.token.rules.generated.kind.TheConstants.{OPID, PACKAGE}
 use Rattle.ir_builder.specs.Rules.{reach}
 use Rattle.ir_text.specs.Parser.Spans.Lines.{AreTokensOf, FollowInTurn, IsLineOfForm, IsNamedLine, IsSpanOf, bytes_at, node_form, package_form}
 use Rattle.ir_text.specs.Parser.Spans.Lines as spans

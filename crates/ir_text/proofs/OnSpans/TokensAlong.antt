@@ -10,10 +10,10 @@ use Rattle.dslx_token.specs.Blank.{after_blank, behind_blank}
 use Rattle.dslx_token.specs.Characters.{is_white}
 use Rattle.dslx_token.specs.Lexeme.{Lexeme}
 use Rattle.dslx_token.specs.Tokens.{offset_of}
-use Rattle.ir_token.specs.declared.rules.generated.kind.TheConstants.{END}
-use Rattle.ir_token.specs.TokenPrefixes.{begins_hexadecimal, digits_len, mark_kind, name_len, number_prefix, token_prefix, value_of_number, word_goes_on}
-use Rattle.ir_token.specs.Kinds.{Context, context_behind, kind_in, no_context, settled_in}
-use Rattle.ir_token.specs.Tokens.{ends, goes, ir_lexeme_at, AreIrTokens, IsCutInto}
+use Rattle.ir_builder.specs.declared.token.rules.generated.kind.TheConstants.{END}
+use Rattle.ir_builder.specs.Token.TokenPrefixes.{begins_hexadecimal, digits_len, mark_kind, name_len, number_prefix, token_prefix, value_of_number, word_goes_on}
+use Rattle.ir_builder.specs.Token.Kinds.{Context, context_behind, kind_in, no_context, settled_in}
+use Rattle.ir_builder.specs.Token.Tokens.{ends, goes, ir_lexeme_at, AreIrTokens, IsCutInto}
 use Rattle.ir_text.specs.Parser.Spans.Along.{AreTokensAlong, AreTokensIn}
 
 -- ---- the end of a text

@@ -1,16 +1,16 @@
 -- What decides where lines stand: of all that was built, the tokens, the counts of lists, the names, and the spans of lines.
 use Rattle.std.proofs.Common.{ℕ, ◌+◌, min, List, [], ◌∷◌, drop, take, reverse}
-use Rattle.grammar.specs.declared.bottom_up.Step.{Step}
-use Rattle.grammar.specs.declared.bottom_up.Step.TheVariants.{Shift, Reduce}
+use Rattle.base.specs.declared.grammar.bottom_up.Step.{Step}
+use Rattle.base.specs.declared.grammar.bottom_up.Step.TheVariants.{Shift, Reduce}
 use Rattle.xb_span.specs.declared.span.Span.{Span}
 use Rattle.xb_span.specs.Spans.{nowhere}
 use Rattle.delay_model.specs.Names.{op_named}
 use Rattle.delay_model.specs.declared.op.Op.{Op}
 use Rattle.dslx_token.specs.Lexeme.{Lexeme}
 use Rattle.base.specs.Stacks.Tops.{top_or}
-use Rattle.ir_token.specs.Kinds.{op_part}
-use Rattle.ir_token.specs.Said.{id_said}
-use Rattle.ir_verify.specs.declared.line_spans.ProcSpans.{ProcSpans}
+use Rattle.ir_builder.specs.Token.Kinds.{op_part}
+use Rattle.ir_builder.specs.Token.Said.{id_said}
+use Rattle.ir_tree.specs.declared.rules.line_spans.ProcSpans.{ProcSpans}
 use Rattle.ir_builder.specs.declared.rule.Rule.{Rule}
 use Rattle.ir_builder.specs.declared.rule.Rule.TheVariants.{Keep, Skip, Start, More, Name, Number, BitsElement, TokenElement, TupleElement, TypeOf, NumberValue, TupleValue, ArrayValue, StateOperand, NodeOperand, SomeOperand, NoOperand, PlainCall, SliceCall, DynamicCall, ExtendCall, SelCall, IndexCall, IndicesCall, LiteralCall, SiteChannel, SiteCall, ChannelId, Input, Output, Inner, ChannelOf, HeadOf, NodeOf, NextOf, ProcOf, PackageLine}
 use Rattle.ir_builder.specs.Building.{rule_of}

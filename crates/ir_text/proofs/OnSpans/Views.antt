@@ -1,8 +1,8 @@
 -- What is built shows what decides where lines stand.
 use Rattle.std.proofs.Common.{◌≡◌, List, [], ◌∷◌, drop, map, reverse, take, refl, sym, ap, ◌∙◌, append-nil}
 use Rattle.std.proofs.lemmas.List.{drop-map, take-map}
-use Rattle.grammar.specs.declared.bottom_up.Step.{Step}
-use Rattle.grammar.specs.declared.bottom_up.Step.TheVariants.{Shift, Reduce}
+use Rattle.base.specs.declared.grammar.bottom_up.Step.{Step}
+use Rattle.base.specs.declared.grammar.bottom_up.Step.TheVariants.{Shift, Reduce}
 use Rattle.dslx_token.specs.Lexeme.{Lexeme}
 use Rattle.base.specs.Stacks.Tops.{top_or}
 use Rattle.ir_tree.specs.declared.node.Node.{Node}

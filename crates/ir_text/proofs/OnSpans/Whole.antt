@@ -2,19 +2,19 @@
 use Rattle.std.proofs.Common.{◌≡◌, ◌≤◌, ◌<◌, ◌+◌, ◌^◌, ℕ, List, [], ◌∷◌, ◌++◌, length, map, reverse, refl, sym, ap, subst, ◌∙◌, arith, append-nil}
 use Rattle.std.specs.Prelude.{Some, option_map}
 use Rattle.std.proofs.lemmas.List.{length-append}
-use Rattle.grammar.specs.Derivation.{start_of}
-use Rattle.grammar.specs.Steps.{steps_of}
-use Rattle.grammar.specs.Tree.{Forest}
+use Rattle.base.specs.Grammar.Derivation.{start_of}
+use Rattle.base.specs.Grammar.Steps.{steps_of}
+use Rattle.base.specs.Grammar.Tree.{Forest}
 use Rattle.xb_span.specs.declared.span.Span.{Span}
 use Rattle.xb_span.specs.Spans.{nowhere}
 use Rattle.dslx_token.specs.Lexeme.{Lexeme}
 use Rattle.base.specs.Stacks.Tops.{top_or}
-use Rattle.ir_token.specs.Kinds.{id_part, is_id, op_part}
-use Rattle.ir_token.specs.Rules.Ir.{ir}
+use Rattle.ir_builder.specs.Token.Kinds.{id_part, is_id, op_part}
+use Rattle.ir_builder.specs.Token.Rules.Ir.{ir}
 use Rattle.ir_tree.specs.declared.node.Node.{Node}
 use Rattle.ir_tree.specs.declared.package.Proc.{Proc}
-use Rattle.ir_verify.specs.declared.line_spans.LineSpans.{LineSpans}
-use Rattle.ir_verify.specs.declared.line_spans.ProcSpans.{ProcSpans}
+use Rattle.ir_tree.specs.declared.rules.line_spans.LineSpans.{LineSpans}
+use Rattle.ir_tree.specs.declared.rules.line_spans.ProcSpans.{ProcSpans}
 use Rattle.ir_builder.specs.declared.builder.Spanned.{Spanned}
 use Rattle.ir_builder.specs.declared.state.State.{State}
 use Rattle.ir_builder.specs.Building.{built, package_of, spans_of}

@@ -1,6 +1,6 @@
 -- What a token of an IR text does to the nesting of those behind it: only open brackets count.
 use Rattle.std.specs.Prelude.{◌==◌, ◌||◌, ℕ, if◌then◌else◌}
-use Rattle.ir_token.specs.declared.rules.generated.kind.TheConstants.{LBRACE, LBRACKET, LPAREN, RBRACE, RBRACKET, RPAREN}
+use Rattle.ir_builder.specs.declared.token.rules.generated.kind.TheConstants.{LBRACE, LBRACKET, LPAREN, RBRACE, RBRACKET, RPAREN}
 use Rattle.xb_span.specs.declared.nesting.bracket_class.BracketClass.{BracketClass}
 use Rattle.xb_span.specs.declared.nesting.bracket_class.BracketClass.TheVariants.{Open, Close, Plain}
 

@@ -1,12 +1,12 @@
 -- Which tokens are those of which package, and how the others are refused.
 use Rattle.std.specs.Prelude.{◌≡◌, ◌<◌, ◌≤◌, ℕ, List, map, None, Some, slice_get}
-use Rattle.grammar.specs.Derivation.{IsSentence}
-use Rattle.grammar.specs.Steps.{steps_of}
-use Rattle.grammar.specs.Tree.{Forest, IsParseTree}
+use Rattle.base.specs.Grammar.Derivation.{IsSentence}
+use Rattle.base.specs.Grammar.Steps.{steps_of}
+use Rattle.base.specs.Grammar.Tree.{Forest, IsParseTree}
 use Rattle.base.specs.Lists.Fault.{IsFirstFault}
 use Rattle.xb_span.specs.Nesting.Nesting.{first_past}
 use Rattle.xb_span.specs.declared.nesting.bracket_class.BracketClass.{BracketClass}
-use Rattle.ir_token.specs.Rules.Ir.{ir}
+use Rattle.ir_builder.specs.Token.Rules.Ir.{ir}
 use Rattle.dslx_token.specs.Lexeme.{Lexeme}
 use Rattle.xb_span.specs.declared.limit.Limit.{Limit}
 use Rattle.xb_span.specs.declared.limit.What.TheVariants.{Nesting}

@@ -1,9 +1,9 @@
 -- Which texts are which packages, and how others are refused.
 use Rattle.std.specs.Prelude.{◌≡◌, ℕ, List, None, Some, Result, Ok, Err, option_map}
 use Rattle.dslx_token.specs.Lexeme.{Lexeme}
-use Rattle.ir_token.specs.Tokens.{AreIrTokens, IsCutOffAt}
+use Rattle.ir_builder.specs.Token.Tokens.{AreIrTokens, IsCutOffAt}
 use Rattle.ir_tree.specs.declared.package.Package.{Package}
-use Rattle.ir_verify.specs.Verified.{first_fault}
+use Rattle.ir_tree.specs.Rules.Verified.{first_fault}
 use Rattle.xb_span.specs.Fault.{error_of}
 use Rattle.xb_span.specs.declared.limit.Limit.{Limit}
 use Rattle.xb_span.specs.declared.read_error.ReadError.{ReadError}

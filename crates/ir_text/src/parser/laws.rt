@@ -9,7 +9,7 @@ ghost use Rattle.xb_span.specs.declared.read_error.ReadError.{ReadError};
 pub fn one_package()
     ensures { (text : List ℕ) (a b : Result Package ReadError) → GivesPackage text a → GivesPackage text b → a ≡ b }
 {
-    ir_token::rules::one_derivation();
-    grammar::one_tree();
-    ir_token::one_list_of_tokens();
+    ir_builder::token::rules::one_derivation();
+    base::grammar::one_tree();
+    ir_builder::token::one_list_of_tokens();
 }

@@ -2,7 +2,7 @@
 
 ghost use Rattle.std.specs.Prelude.{◌≡◌, ◌<◌, ◌^◌, ◌⊎◌, None, Result, Ok, Err, length, IfErr, IfOk, OnOk};
 ghost use Rattle.ir_tree.specs.declared.package.Package.{Package as Ir};
-ghost use Rattle.ir_verify.specs.Verified.{IsVerified, first_fault};
+ghost use Rattle.ir_tree.specs.Rules.Verified.{IsVerified, first_fault};
 ghost use Rattle.xb_span.specs.declared.read_error.ReadError.{ReadError as Refusal};
 ghost use Rattle.xb_span.specs.declared.read_error.ReadError.TheVariants.{OutOfMemory};
 ghost use Rattle.ir_text.specs.Parser.Texts.{GivesPackage, IsIrTextOf};
@@ -10,9 +10,9 @@ ghost use Rattle.ir_text.specs.Parser.Texts.{GivesPackage, IsIrTextOf};
 use crate::parser::laws::one_package;
 use crate::parser::reader::read_tokens;
 use ir_builder::Spanned;
-use ir_token::tokens;
+use ir_builder::token::tokens;
 use ir_tree::Package;
-use ir_verify::check;
+use ir_tree::rules::check;
 use std::alloc::Global;
 use xb_span::ReadError;
 

@@ -1,18 +1,18 @@
 //! Reading the tokens of a text.
 
 ghost use Rattle.std.specs.Prelude.{◌≡◌, ◌≤◌, ◌<◌, ℕ, List, None, Some, length, map, slice_get, IfErr, IfOk, IfSome};
-ghost use Rattle.grammar.specs.Answer.{EndsWith, IfFault};
-ghost use Rattle.grammar.specs.Derivation.{IsDerivation, IsSentence};
+ghost use Rattle.base.specs.Grammar.Answer.{EndsWith, IfFault};
+ghost use Rattle.base.specs.Grammar.Derivation.{IsDerivation, IsSentence};
 ghost use Rattle.base.specs.Lists.Fault.{IsFirstFault};
 ghost use Rattle.xb_span.specs.Nesting.Nesting.{first_past};
-ghost use Rattle.ir_token.specs.Rules.Ir.{ir};
+ghost use Rattle.ir_builder.specs.Token.Rules.Ir.{ir};
 ghost use Rattle.ir_text.specs.Parser.Reads.{AreShallow, IsRefusal, Reads, kinds_of, bracket_classes_of};
 ghost use Rattle.ir_text.specs.Parser.BracketClasses.{role_of};
 
-use grammar::ParseError;
+use base::grammar::ParseError;
+use ir_builder::token::Token;
+use ir_builder::token::rules::kind::{END, LBRACE, LBRACKET, LPAREN, RBRACE, RBRACKET, RPAREN};
 use ir_builder::{Spanned, build};
-use ir_token::Token;
-use ir_token::rules::kind::{END, LBRACE, LBRACKET, LPAREN, RBRACE, RBRACKET, RPAREN};
 use std::alloc::{AllocError, Global};
 use xb_span::nesting::{BracketClass, first_over};
 use xb_span::{Limit, ReadError, What};
@@ -43,7 +43,7 @@ fn judged(
     ensures shallow { IfOk result (λ _. AreShallow tokens.now) }
     ensures refused { IfErr result (λ e. IsRefusal tokens.now e) }
 {
-    match ir_token::rules::parse(alloc, kinds) {
+    match ir_builder::token::rules::parse(alloc, kinds) {
         Ok(productions) => match deep {
             None => Ok(tree(alloc, tokens, kinds, &productions)?),
             Some(deep) => Err(depth_fault(tokens, kinds, &productions, deep)),
@@ -64,8 +64,8 @@ fn tree(
     requires derived { IsDerivation ir productions.now kinds.now }
     ensures { IfOk result (λ spanned. Reads tokens.now spanned) }
 {
-    grammar::one_tree();
-    let steps = ir_token::rules::steps(alloc, productions)?;
+    base::grammar::one_tree();
+    let steps = ir_builder::token::rules::steps(alloc, productions)?;
     build(alloc, &steps, tokens)
 }
 

@@ -3,7 +3,7 @@
 ghost use Rattle.std.specs.Prelude.{◌<◌, ◌+◌, ◌^◌, ℕ, List, Err, length};
 ghost use Rattle.dslx_token.specs.Lexeme.{Lexeme};
 ghost use Rattle.ir_builder.specs.declared.builder.Spanned.{Spanned};
-ghost use Rattle.ir_token.specs.Tokens.{AreIrTokens};
+ghost use Rattle.ir_builder.specs.Token.Tokens.{AreIrTokens};
 ghost use Rattle.ir_text.specs.Parser.Texts.{GivesPackage, IsIrTextOf};
 ghost use Rattle.ir_text.specs.Parser.Spans.Along.{AreLinesAlong, AreTokensIn, IsLineSpanIn};
 ghost use Rattle.ir_text.specs.Parser.Spans.Whole.{ArePackageLines};

@@ -1,5 +1,5 @@
 ghost use Rattle.std.specs.Prelude.{◌≡◌, ◌<◌, ◌^◌, ◌⊎◌, Ok, Err, length};
-ghost use Rattle.ir_verify.specs.Verified.{IsVerified};
+ghost use Rattle.ir_tree.specs.Rules.Verified.{IsVerified};
 ghost use Rattle.ir_text.specs.Printer.Lines.{package_text};
 ghost use Rattle.xb_span.specs.declared.read_error.ReadError.TheVariants.{OutOfMemory};
 

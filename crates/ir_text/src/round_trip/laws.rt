@@ -2,7 +2,7 @@
 
 ghost use Rattle.std.specs.Prelude.{◌≡◌, ◌<◌, ◌^◌, ℕ, List, Ok, length};
 ghost use Rattle.ir_tree.specs.declared.package.Package.{Package};
-ghost use Rattle.ir_verify.specs.Verified.{IsVerified};
+ghost use Rattle.ir_tree.specs.Rules.Verified.{IsVerified};
 ghost use Rattle.ir_text.specs.Printer.Lines.{package_text};
 ghost use Rattle.ir_text.specs.Parser.Texts.{GivesPackage};
 ghost use Rattle.ir_text.specs.RoundTrip.InRange.{IsInRange};

@@ -1,15 +1,15 @@
 -- Tokens read as one module at most.
 use Rattle.std.proofs.Common.{◌≡◌, ℕ, zero, suc, ◌<◌, ◌≤◌, Option, length, arith, ◌∷◌, List, ◌++◌, [], refl, ap, sym, ◌∙◌, subst}
 use Rattle.std.specs.Prelude.{Result, Ok, Err, None, Some, IfErr, IfOk, IfSome, MatchResult, slice_get}
-use Rattle.grammar.specs.declared.table.Symbol.{Symbol}
-use Rattle.grammar.specs.Derivation.{Derives, IsDerivation, IsSentence, start_of}
-use Rattle.grammar.specs.Steps.{steps_of}
-use Rattle.grammar.specs.declared.bottom_up.Step.{Step}
-use Rattle.grammar.specs.Syntax.{Rule}
-use Rattle.grammar.specs.Tree.{Forest, Grows, IsParseTree, leaves_of, productions_of}
+use Rattle.base.specs.declared.grammar.table.Symbol.{Symbol}
+use Rattle.base.specs.Grammar.Derivation.{Derives, IsDerivation, IsSentence, start_of}
+use Rattle.base.specs.Grammar.Steps.{steps_of}
+use Rattle.base.specs.declared.grammar.bottom_up.Step.{Step}
+use Rattle.base.specs.Grammar.Syntax.{Rule}
+use Rattle.base.specs.Grammar.Tree.{Forest, Grows, IsParseTree, leaves_of, productions_of}
 use Rattle.base.specs.Lists.Fault.{IsFirstFault}
 use Rattle.base.proofs.Lemmas.Lists.Faults.{IsFirstFault-unique}
-use Rattle.vlog_token.specs.Rules.Verilog.{verilog}
+use Rattle.vlog_text.specs.Token.Rules.Verilog.{verilog}
 use Rattle.dslx_token.specs.Lexeme.{Lexeme}
 use Rattle.xb_span.specs.declared.read_error.ReadError.{ReadError}
 use Rattle.xb_span.specs.declared.read_error.ReadError.TheVariants.{Syntax, Broken, Over, OutOfMemory}

@@ -14,7 +14,7 @@ use Rattle.xb_span.specs.declared.read_error.ReadError.TheVariants.{Syntax, Brok
 use Rattle.xb_span.specs.declared.span.Rule.{Rule}
 use Rattle.xb_span.specs.declared.span.Span.{Span}
 use Rattle.xb_span.specs.Spans.{nowhere}
-use Rattle.vlog_token.specs.Tokens.{HasTokens}
+use Rattle.vlog_text.specs.Token.Tokens.{HasTokens}
 use Rattle.vlog_tree.specs.declared.module.Assignment.{Assignment}
 use Rattle.vlog_tree.specs.declared.module.Declaration.{Declaration}
 use Rattle.vlog_tree.specs.declared.module.Port.{Port}

@@ -1,8 +1,8 @@
 -- A text gives one module, or is refused for one cause.
 use Rattle.std.proofs.Common.{◌≡◌, ◌-◌, ℕ, suc, List, [], ◌∷◌, length, take, drop, Option, Some, None, Result, Ok, Err, inl, inr, refl, ap, sym, ◌∙◌, subst, arith}
 use Rattle.std.specs.Prelude.{slice_get, ◌⊎◌}
-use Rattle.grammar.specs.Answer.{EndsWith}
-use Rattle.vlog_token.specs.declared.rules.generated.kind.TheConstants.{END}
+use Rattle.base.specs.Grammar.Answer.{EndsWith}
+use Rattle.vlog_text.specs.declared.token.rules.generated.kind.TheConstants.{END}
 use Rattle.dslx_token.specs.Blank.{after_blank}
 use Rattle.dslx_token.specs.Tokens.{offset_of}
 use Rattle.xb_span.specs.Fault.{error_of}
@@ -12,7 +12,7 @@ use Rattle.xb_span.specs.declared.read_error.ReadError.{ReadError}
 use Rattle.xb_span.specs.declared.read_error.ReadError.TheVariants.{Syntax, Broken, Over, OutOfMemory}
 use Rattle.dslx_token.specs.Lexeme.{Lexeme}
 use Rattle.vlog_tree.specs.declared.module.VModule.{VModule}
-use Rattle.vlog_token.specs.Tokens.{BreaksAt, HasTokens, IsBroken, ends, goes, verilog_lexeme_at}
+use Rattle.vlog_text.specs.Token.Tokens.{BreaksAt, HasTokens, IsBroken, ends, goes, verilog_lexeme_at}
 use Rattle.vlog_text.specs.declared.builder.parsed.Parsed.{Parsed}
 use Rattle.vlog_text.specs.Parser.Reads.{IsParsing, kinds_of, misplaced, whole}
 use Rattle.vlog_text.specs.Parser.Reads as parses

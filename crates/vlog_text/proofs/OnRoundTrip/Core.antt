@@ -3,7 +3,7 @@
 use Rattle.std.proofs.Common.{◌≡◌, ◌+◌, ◌==◌, ℕ, Bool, true, false, List, [], ◌∷◌, ◌++◌, map, drop, take, Option, None, Some, refl}
 use Rattle.std.specs.Prelude.{min, reverse, if◌then◌else◌}
 use Rattle.dslx_token.specs.Lexeme.{Lexeme}
-use Rattle.vlog_token.specs.declared.rules.generated.kind.TheConstants.{ASSIGN, LITERAL}
+use Rattle.vlog_text.specs.declared.token.rules.generated.kind.TheConstants.{ASSIGN, LITERAL}
 use Rattle.vlog_tree.specs.declared.module.VModule.{VModule}
 use Rattle.vlog_tree.specs.declared.module.Port.{Port}
 use Rattle.vlog_tree.specs.declared.module.Declaration.{Declaration}
@@ -27,9 +27,9 @@ use Rattle.vlog_tree.specs.declared.expression.Simple.{Simple}
 use Rattle.vlog_tree.specs.declared.expression.Simple.TheVariants as simple
 use Rattle.vlog_tree.specs.declared.expression.Expr.{Expr}
 use Rattle.vlog_tree.specs.declared.expression.Expr.TheVariants as expr
-use Rattle.vlog_token.specs.TokenPrefixes.{width_said}
-use Rattle.vlog_token.specs.Kinds.{verilog_kind}
-use Rattle.vlog_token.specs.Tokens.{verilog_lexeme_at}
+use Rattle.vlog_text.specs.Token.TokenPrefixes.{width_said}
+use Rattle.vlog_text.specs.Token.Kinds.{verilog_kind}
+use Rattle.vlog_text.specs.Token.Tokens.{verilog_lexeme_at}
 use Rattle.vlog_text.specs.declared.builder.rule.Rule.{Rule}
 use Rattle.vlog_text.specs.declared.builder.rule.Rule.TheVariants.{Keep, RangeOf, NoRange, PortOf, DirectionOf, DeclarationOf, StorageOf, AssignmentOf, SkipIdent, ResetsOf, ClocksOf, SetOf, NameAtom, LiteralAtom, NameExpr, LiteralExpr, SimpleExpr, SignedExpr, NameSimple, LiteralSimple, UnaryOf, ConcatOf, More, Start, BinaryTail, NoTail, ChoiceTail, SliceTail, OrderTail, ShiftTail, UnaryIs, BinaryIs, OrderedBinary, OrderIs}
 use Rattle.vlog_text.specs.declared.builder.state.State.{State}

@@ -9,10 +9,10 @@ use Rattle.dslx_token.specs.Blank.{after_blank, behind_blank}
 use Rattle.dslx_token.specs.Characters.{is_white}
 use Rattle.dslx_token.specs.Lexeme.{Lexeme}
 use Rattle.dslx_token.specs.Tokens.{offset_of}
-use Rattle.vlog_token.specs.declared.rules.generated.kind.TheConstants.{END}
+use Rattle.vlog_text.specs.declared.token.rules.generated.kind.TheConstants.{END}
 use Rattle.vlog_tree.specs.declared.expression.Literal.{Literal}
-use Rattle.vlog_token.specs.TokenPrefixes.{token_prefix_len, mark_len, number_len}
-use Rattle.vlog_token.specs.Tokens.{HasTokens, ends, goes, verilog_lexeme_at}
+use Rattle.vlog_text.specs.Token.TokenPrefixes.{token_prefix_len, mark_len, number_len}
+use Rattle.vlog_text.specs.Token.Tokens.{HasTokens, ends, goes, verilog_lexeme_at}
 use Rattle.vlog_text.specs.Printer.Parts.{literal_text}
 use Rattle.vlog_text.proofs.OnRoundTrip.Says.{AreOf, are-append}
 use Rattle.vlog_text.proofs.OnRoundTrip.Spelling.{AreDigits, and_first, decimal_digits, drop_prefix, if_false, literal-len, literal_prefix, number-len, stops, take_prefix, word-len}

@@ -1,19 +1,19 @@
 -- The rules of the grammar and the words that are spelled one way, each with what it does to what is being built.
 use Rattle.std.proofs.Common.{ℕ, List, [], ◌∷◌, refl}
 use Rattle.std.specs.Prelude.{codes}
-use Rattle.grammar.specs.declared.table.Symbol.TheVariants.{Terminal, Nonterminal}
-use Rattle.grammar.specs.Derivation.{IsRule}
-use Rattle.vlog_token.specs.declared.rules.generated.kind.TheConstants as kind
-use Rattle.vlog_token.specs.declared.rules.generated.nonterminal.TheConstants as nonterminal
-use Rattle.vlog_token.specs.declared.rules.generated.production.TheConstants as production
-use Rattle.vlog_token.specs.Rules.Rules.{named_rules}
-use Rattle.vlog_token.specs.Rules.Verilog.{verilog}
+use Rattle.base.specs.declared.grammar.table.Symbol.TheVariants.{Terminal, Nonterminal}
+use Rattle.base.specs.Grammar.Derivation.{IsRule}
+use Rattle.vlog_text.specs.declared.token.rules.generated.kind.TheConstants as kind
+use Rattle.vlog_text.specs.declared.token.rules.generated.nonterminal.TheConstants as nonterminal
+use Rattle.vlog_text.specs.declared.token.rules.generated.production.TheConstants as production
+use Rattle.vlog_text.specs.Token.Rules.Rules.{named_rules}
+use Rattle.vlog_text.specs.Token.Rules.Verilog.{verilog}
 use Rattle.vlog_tree.specs.declared.module.Direction.TheVariants as directions
 use Rattle.vlog_tree.specs.declared.module.Storage.TheVariants as storages
 use Rattle.vlog_tree.specs.declared.expression.Binary.TheVariants as binary
 use Rattle.vlog_tree.specs.declared.expression.Order.TheVariants as order
 use Rattle.vlog_tree.specs.declared.expression.Unary.TheVariants as unary
-use Rattle.vlog_token.specs.Kinds.{mark_kind}
+use Rattle.vlog_text.specs.Token.Kinds.{mark_kind}
 use Rattle.vlog_text.specs.declared.builder.rule.Rule.TheVariants.{Keep, RangeOf, NoRange, PortOf, DirectionOf, DeclarationOf, StorageOf, AssignmentOf, SkipIdent, ResetsOf, ClocksOf, SetOf, NameAtom, LiteralAtom, NameExpr, LiteralExpr, SimpleExpr, SignedExpr, NameSimple, LiteralSimple, UnaryOf, ConcatOf, More, Start, BinaryTail, NoTail, ChoiceTail, SliceTail, OrderTail, ShiftTail, UnaryIs, BinaryIs, OrderedBinary, OrderIs}
 use Rattle.vlog_text.proofs.OnRoundTrip.Core.{Core, reduced_core}
 use Rattle.vlog_text.proofs.OnRoundTrip.Says.{Says, says_is, says_rule, says_token}

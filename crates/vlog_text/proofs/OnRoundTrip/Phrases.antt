@@ -4,9 +4,9 @@ use Rattle.std.specs.Prelude.{codes, decimal, min, reverse, if◌then◌else◌}
 use Rattle.std.specs.List.{AllByRecursion}
 use Rattle.std.proofs.lemmas.Bool.{eqb-true}
 use Rattle.std.proofs.lemmas.List.{length-reverse, length-map, reverse-append, reverse-reverse}
-use Rattle.grammar.specs.declared.table.Symbol.TheVariants.{Terminal, Nonterminal}
-use Rattle.vlog_token.specs.declared.rules.generated.kind.TheConstants as kind
-use Rattle.vlog_token.specs.declared.rules.generated.nonterminal.TheConstants as nonterminal
+use Rattle.base.specs.declared.grammar.table.Symbol.TheVariants.{Terminal, Nonterminal}
+use Rattle.vlog_text.specs.declared.token.rules.generated.kind.TheConstants as kind
+use Rattle.vlog_text.specs.declared.token.rules.generated.nonterminal.TheConstants as nonterminal
 use Rattle.vlog_tree.specs.declared.module.VModule.{VModule}
 use Rattle.vlog_tree.specs.declared.module.Port.{Port}
 use Rattle.vlog_tree.specs.declared.module.Declaration.{Declaration}
@@ -31,8 +31,8 @@ use Rattle.vlog_tree.specs.declared.expression.Expr.{Expr}
 use Rattle.vlog_tree.specs.declared.expression.Expr.TheVariants as expr
 use Rattle.vlog_tree.specs.Signals.{signals}
 use Rattle.vlog_tree.specs.Sound.{IsKnown, IsKnownAtom, IsKnownSimple}
-use Rattle.vlog_token.specs.TokenPrefixes.{width_said}
-use Rattle.vlog_token.specs.Kinds.{digits_kind, verilog_kind}
+use Rattle.vlog_text.specs.Token.TokenPrefixes.{width_said}
+use Rattle.vlog_text.specs.Token.Kinds.{digits_kind, verilog_kind}
 use Rattle.vlog_text.specs.Builder.Building.{is_name, is_number}
 use Rattle.vlog_text.specs.Builder.Parts.{literal_of, most, name_text}
 use Rattle.vlog_text.specs.declared.builder.tail.Tail.TheVariants as tail

@@ -4,10 +4,10 @@ use Rattle.std.specs.Prelude.{codes, flat_map}
 use Rattle.std.proofs.lemmas.List.{length-append, length-map}
 use Rattle.std.proofs.lemmas.List.Concat.{flat_map-cons}
 use Rattle.xb_value.specs.Text.{listed}
-use Rattle.grammar.specs.Steps.{steps_of}
-use Rattle.grammar.specs.Tree.{productions_of}
+use Rattle.base.specs.Grammar.Steps.{steps_of}
+use Rattle.base.specs.Grammar.Tree.{productions_of}
 use Rattle.dslx_token.specs.Lexeme.{Lexeme}
-use Rattle.vlog_token.specs.Rules.Verilog.{verilog}
+use Rattle.vlog_text.specs.Token.Rules.Verilog.{verilog}
 use Rattle.vlog_tree.specs.declared.module.VModule.{VModule}
 use Rattle.vlog_tree.specs.declared.module.Port.{Port}
 use Rattle.vlog_tree.specs.declared.module.Declaration.{Declaration}
@@ -21,7 +21,7 @@ use Rattle.vlog_tree.specs.WellFormed.{CanRun}
 use Rattle.vlog_tree.specs.declared.verifier.part_spans.PartSpans.{PartSpans}
 use Rattle.vlog_tree.specs.Verifier.WithSpans.{no_spans}
 use Rattle.vlog_tree.specs.Verifier.Verified.{IsVerdict}
-use Rattle.vlog_token.specs.Tokens.{HasTokens, ends, verilog_lexeme_at}
+use Rattle.vlog_text.specs.Token.Tokens.{HasTokens, ends, verilog_lexeme_at}
 use Rattle.vlog_text.specs.Builder.Building.{built, parsed_of}
 use Rattle.vlog_text.specs.Builder.Empty.{empty}
 use Rattle.vlog_text.specs.Parser.Reads.{Reads, whole}

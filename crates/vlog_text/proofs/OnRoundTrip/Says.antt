@@ -1,19 +1,19 @@
 -- What words of a text grow from by the grammar, and what they do to what is being built.
 use Rattle.std.proofs.Common.{◌≡◌, ◌∙◌, ℕ, List, [], ◌∷◌, ◌++◌, map, refl, sym, ap, ap₂, subst, append_assoc, append-nil}
 use Rattle.std.proofs.lemmas.List.{map-append}
-use Rattle.grammar.specs.declared.bottom_up.Step.{Step}
-use Rattle.grammar.specs.declared.bottom_up.Step.TheVariants.{Shift, Reduce}
-use Rattle.grammar.specs.declared.table.Symbol.{Symbol}
-use Rattle.grammar.specs.declared.table.Symbol.TheVariants.{Terminal, Nonterminal}
-use Rattle.grammar.specs.Derivation.{IsRule}
-use Rattle.grammar.specs.Steps.{steps_of}
-use Rattle.grammar.specs.Syntax.{Rule as GrammarRule}
-use Rattle.grammar.specs.Tree.{Forest, Grows, leaves_of, node, nothing, token}
-use Rattle.grammar.specs.Tree.Grows.{branch, empty, leaf}
+use Rattle.base.specs.declared.grammar.bottom_up.Step.{Step}
+use Rattle.base.specs.declared.grammar.bottom_up.Step.TheVariants.{Shift, Reduce}
+use Rattle.base.specs.declared.grammar.table.Symbol.{Symbol}
+use Rattle.base.specs.declared.grammar.table.Symbol.TheVariants.{Terminal, Nonterminal}
+use Rattle.base.specs.Grammar.Derivation.{IsRule}
+use Rattle.base.specs.Grammar.Steps.{steps_of}
+use Rattle.base.specs.Grammar.Syntax.{Rule as GrammarRule}
+use Rattle.base.specs.Grammar.Tree.{Forest, Grows, leaves_of, node, nothing, token}
+use Rattle.base.specs.Grammar.Tree.Grows.{branch, empty, leaf}
 use Rattle.dslx_token.specs.Lexeme.{Lexeme}
-use Rattle.vlog_token.specs.Rules.Verilog.{verilog}
-use Rattle.vlog_token.specs.Kinds.{verilog_kind}
-use Rattle.vlog_token.specs.Tokens.{verilog_lexeme_at}
+use Rattle.vlog_text.specs.Token.Rules.Verilog.{verilog}
+use Rattle.vlog_text.specs.Token.Kinds.{verilog_kind}
+use Rattle.vlog_text.specs.Token.Tokens.{verilog_lexeme_at}
 use Rattle.vlog_text.specs.Builder.Building.{built, reduced, rule_of, shifted}
 use Rattle.vlog_text.specs.declared.builder.rule.Rule.{Rule}
 use Rattle.vlog_text.specs.declared.builder.state.State.{State}

@@ -12,10 +12,10 @@ use Rattle.std.proofs.Math.Pow.{pow_mono}
 use Rattle.std.proofs.Props.{props}
 use mathlib.Core.HLevel.{is_prop→PathP}
 use Rattle.base.specs.Texts.Words.{begins_word, is_word, is_word_byte}
-use Rattle.vlog_token.specs.declared.rules.generated.kind.TheConstants.{LITERAL, NUMBER, ZERO}
+use Rattle.vlog_text.specs.declared.token.rules.generated.kind.TheConstants.{LITERAL, NUMBER, ZERO}
 use Rattle.vlog_tree.specs.declared.expression.Literal.{Literal}
-use Rattle.vlog_token.specs.TokenPrefixes.{begins_literal, begins_value, digit_run, prefix_digits, token_prefix_len, is_in_range, number_len, value_digits, value_said, width_said, word_run}
-use Rattle.vlog_token.specs.Kinds.{digits_kind, verilog_kind}
+use Rattle.vlog_text.specs.Token.TokenPrefixes.{begins_literal, begins_value, digit_run, prefix_digits, token_prefix_len, is_in_range, number_len, value_digits, value_said, width_said, word_run}
+use Rattle.vlog_text.specs.Token.Kinds.{digits_kind, verilog_kind}
 use Rattle.vlog_text.specs.Builder.Building.{is_number}
 use Rattle.vlog_text.specs.Builder.Parts.{literal_of, most, name_text}
 use Rattle.vlog_text.specs.Printer.Parts.{literal_text}

@@ -4,8 +4,8 @@ use Rattle.std.specs.Prelude.{codes, if◌then◌else◌}
 use Rattle.std.specs.List.{AllByRecursion}
 use Rattle.std.proofs.lemmas.Bool.{eqb-true}
 use Rattle.std.proofs.lemmas.List.{nil_from_length}
-use Rattle.grammar.specs.declared.table.Symbol.TheVariants.{Nonterminal}
-use Rattle.vlog_token.specs.declared.rules.generated.nonterminal.TheConstants as nonterminal
+use Rattle.base.specs.declared.grammar.table.Symbol.TheVariants.{Nonterminal}
+use Rattle.vlog_text.specs.declared.token.rules.generated.nonterminal.TheConstants as nonterminal
 use Rattle.vlog_tree.specs.declared.module.VModule.{VModule}
 use Rattle.vlog_tree.specs.declared.module.Port.{Port}
 use Rattle.vlog_tree.specs.declared.module.Set.{Set}

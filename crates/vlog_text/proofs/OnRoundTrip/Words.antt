@@ -24,7 +24,7 @@ use Rattle.vlog_tree.specs.declared.expression.Expr.{Expr}
 use Rattle.vlog_tree.specs.declared.expression.Expr.TheVariants as expr
 use Rattle.vlog_tree.specs.Signals.{signals}
 use Rattle.vlog_tree.specs.Sound.{IsKnown, IsKnownAtom}
-use Rattle.vlog_token.specs.TokenPrefixes.{width_said}
+use Rattle.vlog_text.specs.Token.TokenPrefixes.{width_said}
 use Rattle.vlog_text.specs.Builder.Parts.{literal_of, most, name_text, signal_of}
 use Rattle.vlog_text.specs.Builder.Rules.{declaration_by, port_by}
 use Rattle.vlog_text.specs.RoundTrip.Names.{IsTextName}

@@ -2,7 +2,7 @@
 use Rattle.std.proofs.Common.{◌≡◌, ◌≤◌, ℕ, Bool, true, false, List, [], ◌∷◌, ◌++◌, map, refl, subst, ◌∙◌, append_assoc, append-nil, arith}
 use Rattle.std.specs.Prelude.{◌==◌, ◌≢◌, if◌then◌else◌}
 use Rattle.dslx_token.specs.Lexeme.{Lexeme}
-use Rattle.vlog_token.specs.declared.rules.generated.kind.TheConstants.{LITERAL}
+use Rattle.vlog_text.specs.declared.token.rules.generated.kind.TheConstants.{LITERAL}
 use Rattle.vlog_text.specs.Parser.Spans.{LexemesAlong, EndsAlong, AreModuleTokens, Clocked, ModuleTokens, NextPort, PartsAlong, Phrase, all_parts, assignment_tokens, block, clocked_tokens, clocks_in, declaration_tokens, last_to, literal_ends, literals_in, missing, phrases, ports_with_commas, resets_in, span_of}
 
 through : (a b c : ℕ) → a ≤ b → b ≤ c → a ≤ c

@@ -1,11 +1,11 @@
 -- What the trees of each nonterminal add to the marks.
 use Rattle.std.proofs.Common.{◌≡◌, ◌≤◌, ℕ, false, length, List, [], ◌∷◌, ◌++◌, map}
 use Rattle.std.specs.Prelude.{flat_map, min, slice_index_or}
-use Rattle.grammar.specs.declared.table.Symbol.{Symbol}
-use Rattle.grammar.specs.declared.table.Symbol.TheVariants.{Terminal, Nonterminal}
+use Rattle.base.specs.declared.grammar.table.Symbol.{Symbol}
+use Rattle.base.specs.declared.grammar.table.Symbol.TheVariants.{Terminal, Nonterminal}
 use Rattle.dslx_token.specs.Lexeme.{Lexeme}
-use Rattle.vlog_token.specs.declared.rules.generated.kind.TheConstants.{AT, BEGIN, CLK, ELSE, ENDBLOCK, ENDMODULE, IF, LPAREN, POSEDGE, RPAREN, RST}
-use Rattle.vlog_token.specs.declared.rules.generated.nonterminal.TheConstants.{ASSIGNMENT, DECLARATION, PORT, SET}
+use Rattle.vlog_text.specs.declared.token.rules.generated.kind.TheConstants.{AT, BEGIN, CLK, ELSE, ENDBLOCK, ENDMODULE, IF, LPAREN, POSEDGE, RPAREN, RST}
+use Rattle.vlog_text.specs.declared.token.rules.generated.nonterminal.TheConstants.{ASSIGNMENT, DECLARATION, PORT, SET}
 use Rattle.vlog_tree.specs.declared.signal.Signal.{Signal}
 use Rattle.xb_span.specs.declared.span.Span.{Span}
 use Rattle.vlog_text.specs.declared.builder.rule.Rule.{Rule}

@@ -2,25 +2,25 @@
 use Rattle.std.proofs.Common.{◌≡◌, ◌∙◌, ◌+◌, ◌≤◌, length, ℕ, zero, suc, Bool, true, false, List, [], ◌∷◌, ◌++◌, map, refl, sym, ap, subst, append_assoc, append-nil, arith}
 use Rattle.std.proofs.lemmas.List.{length-append}
 use Rattle.std.specs.Prelude.{◌==◌, if◌then◌else◌, Some, slice_get}
-use Rattle.grammar.specs.declared.bottom_up.Step.{Step}
-use Rattle.grammar.specs.declared.bottom_up.Step.TheVariants.{Shift, Reduce}
-use Rattle.grammar.specs.declared.table.Symbol.{Symbol}
-use Rattle.grammar.specs.declared.table.Symbol.TheVariants.{Terminal, Nonterminal}
-use Rattle.grammar.specs.Derivation.{IsRule}
-use Rattle.grammar.specs.Steps.{steps_of}
-use Rattle.grammar.specs.Syntax.{NamedRule, Rule}
-use Rattle.grammar.specs.Tree.{Forest, Grows, leaves_of, node, nothing}
-use Rattle.grammar.specs.Tree.Grows.{branch, empty, leaf}
+use Rattle.base.specs.declared.grammar.bottom_up.Step.{Step}
+use Rattle.base.specs.declared.grammar.bottom_up.Step.TheVariants.{Shift, Reduce}
+use Rattle.base.specs.declared.grammar.table.Symbol.{Symbol}
+use Rattle.base.specs.declared.grammar.table.Symbol.TheVariants.{Terminal, Nonterminal}
+use Rattle.base.specs.Grammar.Derivation.{IsRule}
+use Rattle.base.specs.Grammar.Steps.{steps_of}
+use Rattle.base.specs.Grammar.Syntax.{NamedRule, Rule}
+use Rattle.base.specs.Grammar.Tree.{Forest, Grows, leaves_of, node, nothing}
+use Rattle.base.specs.Grammar.Tree.Grows.{branch, empty, leaf}
 use Rattle.dslx_token.specs.Lexeme.{Lexeme}
-use Rattle.vlog_token.specs.Rules.Rules.{named_rules}
-use Rattle.vlog_token.specs.Rules.Verilog.{verilog}
+use Rattle.vlog_text.specs.Token.Rules.Rules.{named_rules}
+use Rattle.vlog_text.specs.Token.Rules.Verilog.{verilog}
 use Rattle.vlog_tree.specs.declared.expression.Binary.TheVariants as binaries
 use Rattle.vlog_tree.specs.declared.expression.Order.TheVariants as orders
 use Rattle.vlog_tree.specs.declared.expression.Unary.TheVariants as unaries
 use Rattle.vlog_tree.specs.declared.module.Direction.TheVariants as directions
 use Rattle.vlog_tree.specs.declared.module.Storage.TheVariants as storages
-use Rattle.vlog_token.specs.declared.rules.generated.kind.TheConstants.{ASSIGN, LITERAL}
-use Rattle.vlog_token.specs.declared.rules.generated.kind.TheConstants as kind
+use Rattle.vlog_text.specs.declared.token.rules.generated.kind.TheConstants.{ASSIGN, LITERAL}
+use Rattle.vlog_text.specs.declared.token.rules.generated.kind.TheConstants as kind
 use Rattle.xb_span.specs.declared.span.Span.{Span}
 use Rattle.vlog_text.specs.Builder.Building.{built, is_name, reduced, rule_of, shifted}
 use Rattle.vlog_text.specs.declared.builder.rule.Rule.{Rule as BuilderRule}

@@ -2,11 +2,11 @@
 use Rattle.std.proofs.Common.{◌≡◌, ◌∙◌, ◌+◌, ℕ, zero, suc, true, false, length, List, [], ◌∷◌, ◌++◌, drop, take, refl, sym, ap, append_assoc, append-nil, arith}
 use Rattle.std.specs.Prelude.{◌==◌, ◌&&◌, flat_map, min, reverse, if◌then◌else◌}
 use Rattle.std.proofs.lemmas.List.{length-append, length-reverse, map-append, reverse-append, reverse-reverse}
-use Rattle.grammar.specs.declared.table.Symbol.TheVariants.{Terminal, Nonterminal}
+use Rattle.base.specs.declared.grammar.table.Symbol.TheVariants.{Terminal, Nonterminal}
 use Rattle.dslx_token.specs.Lexeme.{Lexeme}
-use Rattle.vlog_token.specs.declared.rules.generated.kind.TheConstants.{ASSIGN, LITERAL}
-use Rattle.vlog_token.specs.declared.rules.generated.kind.TheConstants as kind
-use Rattle.vlog_token.specs.declared.rules.generated.nonterminal.TheConstants as nonterminal
+use Rattle.vlog_text.specs.declared.token.rules.generated.kind.TheConstants.{ASSIGN, LITERAL}
+use Rattle.vlog_text.specs.declared.token.rules.generated.kind.TheConstants as kind
+use Rattle.vlog_text.specs.declared.token.rules.generated.nonterminal.TheConstants as nonterminal
 use Rattle.vlog_tree.specs.declared.expression.Binary.{Binary}
 use Rattle.vlog_tree.specs.declared.expression.Order.{Order}
 use Rattle.vlog_tree.specs.declared.expression.Unary.{Unary}

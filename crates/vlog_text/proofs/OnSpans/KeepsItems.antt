@@ -1,11 +1,11 @@
 -- Ports, declarations, assignments and sets: the span that is kept is that of their tokens.
 use Rattle.std.proofs.Common.{◌≡◌, ◌∙◌, ℕ, Bool, true, false, List, [], ◌∷◌, ◌++◌, map, refl, sym, ap, ap₂, append_assoc, append-nil}
 use Rattle.std.specs.Prelude.{◌==◌, ◌≢◌, if◌then◌else◌}
-use Rattle.grammar.specs.declared.table.Symbol.TheVariants.{Terminal, Nonterminal}
+use Rattle.base.specs.declared.grammar.table.Symbol.TheVariants.{Terminal, Nonterminal}
 use Rattle.dslx_token.specs.Lexeme.{Lexeme}
-use Rattle.vlog_token.specs.declared.rules.generated.kind.TheConstants.{ASSIGN, LITERAL}
-use Rattle.vlog_token.specs.declared.rules.generated.kind.TheConstants as kind
-use Rattle.vlog_token.specs.declared.rules.generated.nonterminal.TheConstants as nonterminal
+use Rattle.vlog_text.specs.declared.token.rules.generated.kind.TheConstants.{ASSIGN, LITERAL}
+use Rattle.vlog_text.specs.declared.token.rules.generated.kind.TheConstants as kind
+use Rattle.vlog_text.specs.declared.token.rules.generated.nonterminal.TheConstants as nonterminal
 use Rattle.vlog_tree.specs.declared.module.Direction.{Direction}
 use Rattle.vlog_tree.specs.declared.module.Storage.{Storage}
 use Rattle.vlog_text.specs.declared.builder.rule.Rule.TheVariants.{Keep, RangeOf, NoRange, PortOf, DirectionOf, DeclarationOf, StorageOf, AssignmentOf, SetOf}

@@ -1,10 +1,10 @@
 -- Lists of ports, declarations, assignments and sets, the clocked block, and a whole module.
 use Rattle.std.proofs.Common.{◌≡◌, ◌∙◌, ℕ, List, [], ◌∷◌, ◌++◌, map, refl, sym, ap, append_assoc, append-nil}
 use Rattle.std.proofs.lemmas.List.{map-append}
-use Rattle.grammar.specs.declared.table.Symbol.TheVariants.{Terminal, Nonterminal}
+use Rattle.base.specs.declared.grammar.table.Symbol.TheVariants.{Terminal, Nonterminal}
 use Rattle.dslx_token.specs.Lexeme.{Lexeme}
-use Rattle.vlog_token.specs.declared.rules.generated.kind.TheConstants as kind
-use Rattle.vlog_token.specs.declared.rules.generated.nonterminal.TheConstants as nonterminal
+use Rattle.vlog_text.specs.declared.token.rules.generated.kind.TheConstants as kind
+use Rattle.vlog_text.specs.declared.token.rules.generated.nonterminal.TheConstants as nonterminal
 use Rattle.xb_span.specs.declared.span.Span.{Span}
 use Rattle.vlog_text.specs.declared.builder.rule.Rule.TheVariants.{Keep, SkipIdent, ResetsOf, ClocksOf}
 use Rattle.vlog_text.specs.Parser.Reads.{kinds_of}

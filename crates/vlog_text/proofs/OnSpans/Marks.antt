@@ -5,8 +5,8 @@ use Rattle.std.proofs.lemmas.List.{map-append}
 use Rattle.std.proofs.lemmas.Bool.Decides.{nat_tests}
 use Rattle.base.specs.Stacks.Tops.{top_or}
 use Rattle.dslx_token.specs.Lexeme.{Lexeme}
-use Rattle.vlog_token.specs.declared.rules.generated.kind.TheConstants.{ASSIGN, LITERAL}
-use Rattle.vlog_token.specs.TokenPrefixes.{width_said}
+use Rattle.vlog_text.specs.declared.token.rules.generated.kind.TheConstants.{ASSIGN, LITERAL}
+use Rattle.vlog_text.specs.Token.TokenPrefixes.{width_said}
 use Rattle.vlog_tree.specs.declared.module.Port.{Port}
 use Rattle.vlog_tree.specs.declared.module.Declaration.{Declaration}
 use Rattle.vlog_tree.specs.declared.module.Assignment.{Assignment}

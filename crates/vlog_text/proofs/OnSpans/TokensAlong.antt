@@ -6,7 +6,7 @@ use Rattle.dslx_token.specs.Blank.{after_blank, behind_blank}
 use Rattle.dslx_token.specs.Characters.{is_white}
 use Rattle.dslx_token.specs.Lexeme.{Lexeme}
 use Rattle.dslx_token.specs.Tokens.{offset_of}
-use Rattle.vlog_token.specs.Tokens.{HasTokens, ends, goes}
+use Rattle.vlog_text.specs.Token.Tokens.{HasTokens, ends, goes}
 use Rattle.vlog_text.specs.Parser.Spans.{LexemesAlong}
 
 -- ---- white space and comments are not longer than what they stand before

@@ -1,10 +1,10 @@
 -- How a module is built: each token adds a part, and each complete tree of a rule makes one of the parts of its symbols.
 use Rattle.std.specs.Prelude.{◌==◌, ◌||◌, ℕ, Bool, min, if◌then◌else◌, List, [], ◌∷◌, ◌++◌, slice_index_or}
-use Rattle.grammar.specs.declared.bottom_up.Step.{Step}
-use Rattle.grammar.specs.declared.bottom_up.Step.TheVariants.{Shift, Reduce}
-use Rattle.vlog_token.specs.declared.rules.generated.kind.TheConstants.{ASSIGN, CLK, LITERAL, NAME, NUMBER, RST, ZERO}
+use Rattle.base.specs.declared.grammar.bottom_up.Step.{Step}
+use Rattle.base.specs.declared.grammar.bottom_up.Step.TheVariants.{Shift, Reduce}
+use Rattle.vlog_text.specs.declared.token.rules.generated.kind.TheConstants.{ASSIGN, CLK, LITERAL, NAME, NUMBER, RST, ZERO}
 use Rattle.dslx_token.specs.Lexeme.{Lexeme}
-use Rattle.vlog_token.specs.TokenPrefixes.{width_said}
+use Rattle.vlog_text.specs.Token.TokenPrefixes.{width_said}
 use Rattle.vlog_tree.specs.declared.module.VModule.{VModule}
 use Rattle.vlog_tree.specs.declared.verifier.part_spans.PartSpans.{PartSpans}
 use Rattle.vlog_text.specs.declared.builder.parsed.Parsed.{Parsed}

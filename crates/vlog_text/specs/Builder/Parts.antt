@@ -4,7 +4,7 @@ use Rattle.std.specs.Str.{bytes_eq, is_utf8}
 use Rattle.std.proofs.Common.{arith}
 use Rattle.xb_span.specs.declared.span.Span.{Span}
 use Rattle.vlog_tree.specs.declared.expression.Literal.{Literal}
-use Rattle.vlog_token.specs.TokenPrefixes.{width_said, value_said}
+use Rattle.vlog_text.specs.Token.TokenPrefixes.{width_said, value_said}
 use Rattle.vlog_text.specs.Builder.Inner.Literals.{literal_some, literal_fits}
 
 -- a name in a text

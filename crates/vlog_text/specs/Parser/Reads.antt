@@ -1,10 +1,10 @@
 -- Which tokens read as which module, and how the others are refused.
 use Rattle.std.specs.Prelude.{◌≡◌, ℕ, List, map, Some, Result, Ok, Err, slice_get}
-use Rattle.grammar.specs.Derivation.{IsSentence}
-use Rattle.grammar.specs.Steps.{steps_of}
-use Rattle.grammar.specs.Tree.{Forest, IsParseTree}
+use Rattle.base.specs.Grammar.Derivation.{IsSentence}
+use Rattle.base.specs.Grammar.Steps.{steps_of}
+use Rattle.base.specs.Grammar.Tree.{Forest, IsParseTree}
 use Rattle.base.specs.Lists.Fault.{IsFirstFault}
-use Rattle.vlog_token.specs.Rules.Verilog.{verilog}
+use Rattle.vlog_text.specs.Token.Rules.Verilog.{verilog}
 use Rattle.dslx_token.specs.Lexeme.{Lexeme}
 use Rattle.xb_span.specs.declared.read_error.ReadError.{ReadError}
 use Rattle.xb_span.specs.declared.read_error.ReadError.TheVariants.{Syntax, Broken, Over, OutOfMemory}

@@ -1,11 +1,11 @@
 -- The tokens of a module's text, part by part, and where each part stands.
 use Rattle.std.specs.Prelude.{◌≡◌, ◌≢◌, ◌≤◌, ◌==◌, ℕ, true, if◌then◌else◌, List, [], ◌∷◌, ◌++◌, map, flat_map, Some, slice_get}
-use Rattle.grammar.specs.declared.table.Symbol.TheVariants.{Nonterminal}
-use Rattle.grammar.specs.Tree.{Forest, Grows, leaves_of}
+use Rattle.base.specs.declared.grammar.table.Symbol.TheVariants.{Nonterminal}
+use Rattle.base.specs.Grammar.Tree.{Forest, Grows, leaves_of}
 use Rattle.dslx_token.specs.Lexeme.{Lexeme}
-use Rattle.vlog_token.specs.declared.rules.generated.kind.TheConstants.{ALWAYS, AT, BEGIN, CLK, COMMA, ELSE, END, ENDBLOCK, ENDMODULE, IF, LITERAL, LPAREN, MODULE, POSEDGE, RPAREN, RST, SEMI}
-use Rattle.vlog_token.specs.declared.rules.generated.nonterminal.TheConstants.{ASSIGNMENT, DECLARATION, PORT, SET}
-use Rattle.vlog_token.specs.Rules.Verilog.{verilog}
+use Rattle.vlog_text.specs.declared.token.rules.generated.kind.TheConstants.{ALWAYS, AT, BEGIN, CLK, COMMA, ELSE, END, ENDBLOCK, ENDMODULE, IF, LITERAL, LPAREN, MODULE, POSEDGE, RPAREN, RST, SEMI}
+use Rattle.vlog_text.specs.declared.token.rules.generated.nonterminal.TheConstants.{ASSIGNMENT, DECLARATION, PORT, SET}
+use Rattle.vlog_text.specs.Token.Rules.Verilog.{verilog}
 use Rattle.vlog_tree.specs.declared.module.VModule.{VModule}
 use Rattle.vlog_tree.specs.declared.signal.Signal.{Signal}
 use Rattle.vlog_tree.specs.Forms.{atom_literals, literals}

@@ -7,7 +7,7 @@ use Rattle.xb_span.specs.declared.read_error.ReadError.{ReadError}
 use Rattle.xb_span.specs.declared.read_error.ReadError.TheVariants.{Syntax, Broken, Over, OutOfMemory}
 use Rattle.dslx_token.specs.Lexeme.{Lexeme}
 use Rattle.vlog_tree.specs.declared.module.VModule.{VModule}
-use Rattle.vlog_token.specs.Tokens.{BreaksAt, HasTokens}
+use Rattle.vlog_text.specs.Token.Tokens.{BreaksAt, HasTokens}
 use Rattle.vlog_text.specs.declared.builder.parsed.Parsed.{Parsed}
 use Rattle.vlog_text.specs.Parser.Reads.{IsParsing}
 use Rattle.vlog_tree.specs.Verifier.Verified.{IsVerdict}

@@ -4,7 +4,7 @@ use Rattle.std.specs.List.{AllByRecursion}
 use Rattle.base.specs.Texts.Words.{is_word}
 use Rattle.vlog_tree.specs.declared.module.VModule.{VModule}
 use Rattle.vlog_tree.specs.Signals.{signals}
-use Rattle.vlog_token.specs.Kinds.{verilog_kind}
+use Rattle.vlog_text.specs.Token.Kinds.{verilog_kind}
 use Rattle.vlog_text.specs.Builder.Building.{is_name}
 
 -- a letter or `_`, then letters, digits and `_`, and none of the reserved words

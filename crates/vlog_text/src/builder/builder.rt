@@ -1,7 +1,7 @@
 //! Building the module.
 
 ghost use Rattle.std.specs.Prelude.{◌≡◌, ◌∷◌, ℕ, List, drop, IfOk, OnOk};
-ghost use Rattle.grammar.specs.declared.bottom_up.Step.{Step};
+ghost use Rattle.base.specs.declared.grammar.bottom_up.Step.{Step};
 ghost use Rattle.dslx_token.specs.Lexeme.{Lexeme};
 ghost use Rattle.vlog_text.specs.Builder.Building.{built, design_by, parsed_of, spans_by};
 ghost use Rattle.vlog_text.specs.Builder.Empty.{empty};
@@ -10,11 +10,11 @@ use crate::builder::ident::Ident;
 use crate::builder::parsed::Parsed;
 use crate::builder::rule::rule_of;
 use crate::builder::state::State;
+use crate::token::Token;
+use base::grammar::Step;
 use base::texts::Name;
-use grammar::Step;
 use sqlite_items::Items;
 use std::alloc::{AllocError, Global};
-use vlog_token::Token;
 use vlog_tree::VModule;
 use vlog_tree::verifier::PartSpans;
 

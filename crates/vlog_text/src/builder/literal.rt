@@ -5,7 +5,7 @@ ghost use Rattle.std.specs.Str.Parse.{digits_value};
 ghost use Rattle.vlog_text.specs.Builder.Parts.{literal_of, literal_said, literal_value, most};
 ghost use Rattle.vlog_text.specs.Builder.Empty.{no_literal};
 
-use vlog_token::Token;
+use crate::token::Token;
 use vlog_tree::Literal;
 
 /// A number, or 2^64 - 1 where it is more.

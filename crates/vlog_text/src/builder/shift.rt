@@ -7,9 +7,9 @@ ghost use Rattle.vlog_text.specs.Builder.Parts.{name_text};
 use crate::builder::ident::Ident;
 use crate::builder::literal::{literal, short};
 use crate::builder::state::State;
+use crate::token::Token;
+use crate::token::rules::kind::{ASSIGN, CLK, LITERAL, NAME, NUMBER, RST, ZERO};
 use std::alloc::AllocError;
-use vlog_token::Token;
-use vlog_token::rules::kind::{ASSIGN, CLK, LITERAL, NAME, NUMBER, RST, ZERO};
 
 impl<'a> State<'a> {
     /// Adds a token.

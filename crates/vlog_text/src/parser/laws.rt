@@ -10,6 +10,6 @@ ghost use Rattle.xb_span.specs.declared.read_error.ReadError.{ReadError};
 pub fn one_parsing()
     ensures { (ls : List Lexeme) (a b : Result Parsed ReadError) → IsParsing ls a → IsParsing ls b → a ≡ b }
 {
-    vlog_token::rules::one_derivation();
-    grammar::one_tree();
+    crate::token::rules::one_derivation();
+    base::grammar::one_tree();
 }

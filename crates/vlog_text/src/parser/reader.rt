@@ -1,19 +1,19 @@
 //! Reading the tokens of a text.
 
 ghost use Rattle.std.specs.Prelude.{◌≡◌, ◌<◌, ℕ, List, length, map, slice_get, IfErr, IfOk, IfSome, MatchResult};
-ghost use Rattle.grammar.specs.Answer.{EndsWith, IfFault};
-ghost use Rattle.grammar.specs.Derivation.{IsDerivation, IsSentence};
+ghost use Rattle.base.specs.Grammar.Answer.{EndsWith, IfFault};
+ghost use Rattle.base.specs.Grammar.Derivation.{IsDerivation, IsSentence};
 ghost use Rattle.base.specs.Lists.Fault.{IsFirstFault};
-ghost use Rattle.vlog_token.specs.Rules.Verilog.{verilog};
+ghost use Rattle.vlog_text.specs.Token.Rules.Verilog.{verilog};
 ghost use Rattle.vlog_text.specs.declared.builder.parsed.Parsed.{Parsed as AnyParsed};
 ghost use Rattle.vlog_text.specs.Parser.Reads.{IsRefusal, Reads, kinds_of};
 ghost use Rattle.xb_span.specs.declared.read_error.ReadError.TheVariants.{OutOfMemory};
 
 use crate::builder::{Parsed, build};
-use grammar::ParseError;
+use crate::token::Token;
+use crate::token::rules::kind::END;
+use base::grammar::ParseError;
 use std::alloc::{AllocError, Global};
-use vlog_token::Token;
-use vlog_token::rules::kind::END;
 use xb_span::ReadError;
 
 /// The module of the tokens of a text, which end with the mark at its end.
@@ -32,8 +32,8 @@ pub fn parse(alloc: Global, tokens: &[Token]) -> Result<Parsed, ReadError>
     // A refusal names the first token with which no text goes on.
     ensures refused { IfErr result (λ e. IsRefusal tokens.now e) }
 {
-    vlog_token::rules::one_derivation();
-    grammar::one_tree();
+    crate::token::rules::one_derivation();
+    base::grammar::one_tree();
     read(alloc, tokens)
 }
 
@@ -54,7 +54,7 @@ fn judged(alloc: Global, tokens: &[Token], kinds: &[u8]) -> Result<Parsed, ReadE
     ensures reads { IfOk result (λ p. Reads tokens.now p) }
     ensures refused { IfErr result (λ e. IsRefusal tokens.now e) }
 {
-    match vlog_token::rules::parse(alloc, kinds) {
+    match crate::token::rules::parse(alloc, kinds) {
         Ok(productions) => Ok(tree(alloc, tokens, kinds, &productions)?),
         Err(ParseError::OutOfMemory) => Err(ReadError::OutOfMemory),
         Err(ParseError::Fault(fault)) => Err(refusal(tokens, kinds, fault.place)),
@@ -72,8 +72,8 @@ fn tree(
     requires derived { IsDerivation verilog productions.now kinds.now }
     ensures { IfOk result (λ p. Reads tokens.now p) }
 {
-    grammar::one_tree();
-    let steps = vlog_token::rules::steps(alloc, productions)?;
+    base::grammar::one_tree();
+    let steps = crate::token::rules::steps(alloc, productions)?;
     build(alloc, &steps, tokens)
 }
 

@@ -2,7 +2,7 @@
 
 ghost use Rattle.std.specs.Prelude.{◌≡◌, ◌<◌, ◌^◌, ℕ, List, length};
 ghost use Rattle.dslx_token.specs.Lexeme.{Lexeme};
-ghost use Rattle.vlog_token.specs.Tokens.{HasTokens};
+ghost use Rattle.vlog_text.specs.Token.Tokens.{HasTokens};
 ghost use Rattle.vlog_text.specs.declared.builder.parsed.Parsed.{Parsed};
 ghost use Rattle.vlog_text.specs.Parser.Reads.{Reads};
 ghost use Rattle.vlog_text.specs.Parser.Spans.{LexemesAlong, AreParts, AreModuleTokens, HaveLiterals, ModuleTokens, PartsAlong, all_parts, literal_ends, spans_of};

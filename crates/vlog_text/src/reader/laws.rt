@@ -5,7 +5,7 @@ ghost use Rattle.dslx_token.specs.Lexeme.{Lexeme};
 ghost use Rattle.vlog_tree.specs.declared.module.VModule.{VModule};
 ghost use Rattle.vlog_text.specs.Parser.Spans.{AreModuleTokens, IsSpanOfPart, ModuleTokens};
 ghost use Rattle.vlog_text.specs.Reader.Given.{GivesModule};
-ghost use Rattle.vlog_token.specs.Tokens.{HasTokens};
+ghost use Rattle.vlog_text.specs.Token.Tokens.{HasTokens};
 ghost use Rattle.xb_span.specs.declared.read_error.ReadError.{ReadError};
 ghost use Rattle.xb_span.specs.declared.read_error.ReadError.TheVariants.{Broken};
 ghost use Rattle.xb_span.specs.declared.span.Rule.{Rule};
@@ -15,7 +15,7 @@ ghost use Rattle.xb_span.specs.declared.span.Span.{Span};
 pub fn one_module()
     ensures { (text : List ℕ) (a b : Result VModule ReadError) → GivesModule text a → GivesModule text b → a ≡ b }
 {
-    vlog_token::one_list_of_tokens();
+    crate::token::one_list_of_tokens();
     crate::parser::one_parsing();
     vlog_tree::verifier::laws::one_judgement();
 }

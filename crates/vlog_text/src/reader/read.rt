@@ -1,13 +1,13 @@
 ghost use Rattle.std.specs.Prelude.{◌≡◌, ◌<◌, ◌^◌, List, Ok, length, IfOk, IfErr};
 ghost use Rattle.vlog_tree.specs.WellFormed.{CanRun};
-ghost use Rattle.vlog_token.specs.Tokens.{HasTokens};
+ghost use Rattle.vlog_text.specs.Token.Tokens.{HasTokens};
 ghost use Rattle.vlog_text.specs.Parser.Reads.{IsParsing};
 ghost use Rattle.vlog_text.specs.Reader.Given.{GivesModule, IsRefusal};
 ghost use Rattle.dslx_token.specs.Lexeme.{Lexeme};
 
 use crate::parser::{Parsed, parse};
+use crate::token::{Token, tokens};
 use std::alloc::Global;
-use vlog_token::{Token, tokens};
 use vlog_tree::VModule;
 use vlog_tree::verifier::check;
 use xb_span::ReadError;

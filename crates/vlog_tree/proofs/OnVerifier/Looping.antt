@@ -4,7 +4,7 @@ use Rattle.std.proofs.lemmas.Bool.{cases_eq}
 use Rattle.std.specs.Prelude.{slice_get, slice_set, unwrap_or, Option, Some, None, replicate, MatchBool, option_map}
 use Rattle.std.proofs.lemmas.Option.{slice_get_within, slice_get-get_or}
 use Rattle.base.proofs.Lemmas.Lists.Indices.{slice_get-set_other, slice_get-append_left, slice_get-append_right}
-use Rattle.topo_order.specs.Needs.{AreClosed, needs_of, Needs, Reaches, itself, by_way}
+use Rattle.base.specs.TopoOrder.Needs.{AreClosed, needs_of, Needs, Reaches, itself, by_way}
 use Rattle.vlog_tree.specs.declared.module.VModule.{VModule}
 use Rattle.vlog_tree.specs.declared.module.Assignment.{Assignment}
 use Rattle.vlog_tree.specs.declared.signal.Role.{Role}

@@ -7,9 +7,9 @@ ghost use Rattle.vlog_tree.specs.Verifier.Inner.Firsts.{IsFirstLoop, AreLoops, A
 
 use crate::verifier::parts::is_driven;
 use crate::{Assignment, VModule};
+use base::topo_order::needing_themselves;
 use sqlite_items::Items;
 use std::alloc::{AllocError, Global};
-use topo_order::needing_themselves;
 
 /// The most signals and assignments that are numbered.
 const MOST: usize = u32::MAX as usize;

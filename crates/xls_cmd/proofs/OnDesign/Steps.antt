@@ -33,7 +33,7 @@ use Rattle.dslx_tree.specs.declared.item.Module.{Module}
 use Rattle.dslx_meaning.specs.Network.{behaviors_of, network_of}
 use Rattle.dslx_core.specs.Designs.{core_behaviors, core_network}
 use Rattle.dslx_core.specs.declared.design.Design.{Design}
-use Rattle.dslx_count.specs.declared.size.NetworkSize.{NetworkSize}
+use Rattle.dslx.specs.declared.count.size.NetworkSize.{NetworkSize}
 use Rattle.dslx_elab.specs.Runs.{IsOfAccepted, RunsText}
 use Rattle.dslx.specs.Texts.{GivesTree, HasCheckedText, HasNetworkSize, RefusesText}
 use Rattle.xls_cmd.specs.Design.Commands.{ReadsInputs, ReadsModule, says, at_fault, check, check_text, run, run_texts}

@@ -18,12 +18,12 @@ use Rattle.cmd_line.specs.declared.request.Sim.{Sim}
 use Rattle.vlog_tree.specs.declared.module.VModule.{VModule}
 use Rattle.vlog_tree.specs.declared.row.Row.{Row}
 use Rattle.vlog_text.specs.Reader.Given.{GivesModule, IsRefusal}
-use Rattle.cycle_file.specs.Rows.Forms.{most_rows}
-use Rattle.cycle_file.specs.Rows.RowFile.{Reads, RowLines, all_rows, count_rows, cycles_limit, limited}
-use Rattle.cycle_file.specs.declared.rows.refusal.RowError.{RowError}
-use Rattle.cycle_file.specs.declared.rows.refusal.RowError.TheVariants as refused
-use Rattle.cycle_file.specs.declared.rows.rows.Repeated.{Repeated}
-use Rattle.cycle_file.specs.Cycles.Simulated.{IsSimulated}
+use Rattle.cycle_sim.specs.Rows.Forms.{most_rows}
+use Rattle.cycle_sim.specs.Rows.RowFile.{Reads, RowLines, all_rows, count_rows, cycles_limit, limited}
+use Rattle.cycle_sim.specs.declared.rows.refusal.RowError.{RowError}
+use Rattle.cycle_sim.specs.declared.rows.refusal.RowError.TheVariants as refused
+use Rattle.cycle_sim.specs.declared.rows.rows.Repeated.{Repeated}
+use Rattle.cycle_sim.specs.Cycles.Simulated.{IsSimulated}
 use Rattle.xls_cmd.specs.Sim.Simulation.{ReadsModule, ReadsRows, Simulates, at_fault, says, shows, sim, sim_texts, too_many}
 
 -- ---- reading a module

@@ -8,7 +8,7 @@ use Rattle.cmd_line.specs.declared.request.How.{How}
 use Rattle.dslx_tree.specs.declared.item.Module.{Module}
 use Rattle.dslx_core.specs.Designs.{core_behaviors, core_network}
 use Rattle.dslx_core.specs.declared.design.Design.{Design}
-use Rattle.dslx_count.specs.declared.size.NetworkSize.{NetworkSize}
+use Rattle.dslx.specs.declared.count.size.NetworkSize.{NetworkSize}
 use Rattle.dslx_elab.specs.Runs.{IsAcceptedText, IsMadeOfChecked}
 use Rattle.dslx.specs.Texts.{IsNetworkSize}
 use Rattle.xls_cmd.specs.Design.Commands.{ReadsModule}

@@ -3,7 +3,7 @@ use Rattle.std.specs.Prelude.{◌≡◌, ℕ, List}
 use Rattle.net_core.specs.WellFormed.{IsInputs}
 use Rattle.cmd_line.specs.declared.request.How.{How}
 use Rattle.ir_tree.specs.Networks.{behaviors_of, network_of}
-use Rattle.ir_verify.specs.Verified.{IsVerified}
+use Rattle.ir_tree.specs.Rules.Verified.{IsVerified}
 use Rattle.xls_cmd.specs.Design.Written.{depths_by, run_text}
 use Rattle.xls_cmd.specs.declared.ir.run.Ready.{Ready}
 

@@ -14,7 +14,7 @@ use Rattle.xb_span.specs.declared.read_error.ReadError.TheVariants.{Over}
 use Rattle.ir_lower.specs.Deep.{deep_limit, receives_deep}
 use Rattle.ir_tree.specs.declared.package.Package.{Package}
 use Rattle.ir_tree.specs.SameBehavior.{IsDenotedBy}
-use Rattle.ir_verify.specs.Verified.{IsVerified}
+use Rattle.ir_tree.specs.Rules.Verified.{IsVerified}
 use Rattle.ir_passes.specs.Optimised.{IsOptimised}
 use Rattle.ir_text.specs.Printer.Lines.{package_text}
 use Rattle.ir_text.specs.Parser.Texts.{GivesPackage}

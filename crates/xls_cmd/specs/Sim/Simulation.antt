@@ -11,10 +11,10 @@ use Rattle.chan_file.specs.declared.refusal.Cause.{Cause}
 use Rattle.cmd_line.specs.declared.request.Sim.{Sim}
 use Rattle.vlog_tree.specs.declared.module.VModule.{VModule}
 use Rattle.vlog_text.specs.Reader.Given.{GivesModule}
-use Rattle.cycle_file.specs.Rows.RowFile.{Reads, all_rows}
-use Rattle.cycle_file.specs.declared.rows.refusal.RowError.TheVariants as refused
-use Rattle.cycle_file.specs.declared.rows.rows.Repeated.{Repeated}
-use Rattle.cycle_file.specs.Cycles.Simulated.{IsSimulated}
+use Rattle.cycle_sim.specs.Rows.RowFile.{Reads, all_rows}
+use Rattle.cycle_sim.specs.declared.rows.refusal.RowError.TheVariants as refused
+use Rattle.cycle_sim.specs.declared.rows.rows.Repeated.{Repeated}
+use Rattle.cycle_sim.specs.Cycles.Simulated.{IsSimulated}
 
 -- ---- the steps
 

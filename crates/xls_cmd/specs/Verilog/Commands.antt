@@ -15,7 +15,7 @@ use Rattle.ir_tree.specs.declared.package.Package.{Package}
 use Rattle.ir_tree.specs.Networks.{network_of}
 use Rattle.pipe_schedule.specs.declared.schedule.Schedule.{Schedule}
 use Rattle.block_verilog.specs.Modules.{IsFirstTooDeep, NoneTooDeep}
-use Rattle.block_text.specs.Texts.{IsVerilogOf}
+use Rattle.block_verilog.specs.Texts.{IsVerilogOf}
 
 -- the text of a package's module with these schedules, where no FIFO is too deep; else the limit that the first such one passes, in this file
 pub data PrintsModule (name : List ℕ) (ir : Package) (depths : List ℕ) (schedules : List Schedule) : Result (List ℕ) Fault → Type 0 where

@@ -4,7 +4,7 @@ ghost use Rattle.std.specs.Prelude.{◌<◌, ◌^◌, Ok, length, map, IfOk, IfE
 ghost use Rattle.net_core.specs.WellFormed.{IsInputs};
 ghost use Rattle.dslx_core.specs.Designs.{core_network};
 ghost use Rattle.dslx_elab.specs.Runs.{IsOfAccepted};
-ghost use Rattle.dslx_network.specs.DslxBodies.{behavior_of};
+ghost use Rattle.dslx_interp.specs.Network.DslxBodies.{behavior_of};
 ghost use Rattle.xls_cmd.specs.Shared.Done.{StopsBy};
 ghost use Rattle.xls_cmd.specs.Design.Commands.{ReadsInputs};
 ghost use Rattle.xls_cmd.specs.Design.Inner.{RunsDesign};

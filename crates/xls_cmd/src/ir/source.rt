@@ -1,7 +1,7 @@
 //! The step that reads a package.
 
 ghost use Rattle.std.specs.Prelude.{◌<◌, ◌^◌, Ok, length, IfOk, IfErr};
-ghost use Rattle.ir_verify.specs.Verified.{IsVerified};
+ghost use Rattle.ir_tree.specs.Rules.Verified.{IsVerified};
 ghost use Rattle.xls_cmd.specs.Shared.Done.{StopsBy};
 ghost use Rattle.xls_cmd.specs.Ir.Commands.{ReadsPackage};
 

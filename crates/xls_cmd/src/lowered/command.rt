@@ -3,7 +3,7 @@ ghost use Rattle.xls_cmd.specs.Shared.Done.{IsDone, StopsBy};
 ghost use Rattle.xls_cmd.specs.Shared.Events.{file_events};
 ghost use Rattle.xls_cmd.specs.Shared.Step.{ExpectedBy};
 ghost use Rattle.cmd_line.specs.Named.{named_ir};
-ghost use Rattle.ir_verify.specs.Verified.{IsVerified};
+ghost use Rattle.ir_tree.specs.Rules.Verified.{IsVerified};
 ghost use Rattle.xls_cmd.specs.Lowered.Commands.{GivesText, ir_files, ir_loaded, ir_of_design};
 
 use crate::lowered::source::lower_text;

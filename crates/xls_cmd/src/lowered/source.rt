@@ -2,7 +2,7 @@
 
 ghost use Rattle.std.specs.Prelude.{◌<◌, ◌^◌, Ok, length, IfOk, IfErr};
 ghost use Rattle.std.specs.Option.{option_copied};
-ghost use Rattle.ir_verify.specs.Verified.{IsVerified};
+ghost use Rattle.ir_tree.specs.Rules.Verified.{IsVerified};
 ghost use Rattle.xls_cmd.specs.Shared.Done.{StopsBy};
 ghost use Rattle.xls_cmd.specs.Lowered.Commands.{GivesPackageBy, GivesScheduledBy, LowersText, OptimisesText};
 

@@ -1,7 +1,7 @@
 //! The step that optimises.
 
 ghost use Rattle.std.specs.Prelude.{◌≡◌, ◌<◌, ◌^◌, Ok, length, IfOk};
-ghost use Rattle.ir_verify.specs.Verified.{IsVerified};
+ghost use Rattle.ir_tree.specs.Rules.Verified.{IsVerified};
 ghost use Rattle.ir_text.specs.Printer.Lines.{package_text};
 ghost use Rattle.ir_text.specs.Parser.Texts.{GivesPackage};
 ghost use Rattle.xls_cmd.specs.Opt.Commands.{GivesOptimised};

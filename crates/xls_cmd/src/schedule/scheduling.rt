@@ -4,7 +4,7 @@ ghost use Rattle.std.specs.Prelude.{◌≡◌, ◌≤◌, Ok, IfOk, IfErr};
 ghost use Rattle.xls_cmd.specs.Shared.Done.{StopsBy};
 ghost use Rattle.pipe_schedule.specs.Packages.{AreSchedules, IsFirstInfeasible};
 ghost use Rattle.pipe_schedule.specs.declared.schedule.NoSchedule.TheVariants.{OutOfMemory};
-ghost use Rattle.ir_verify.specs.Verified.{IsVerified};
+ghost use Rattle.ir_tree.specs.Rules.Verified.{IsVerified};
 ghost use Rattle.pipe_schedule.specs.Text.Text.{schedule_text};
 ghost use Rattle.xls_cmd.specs.Schedule.Commands.{GivesSchedules, HasSchedules};
 

@@ -11,6 +11,6 @@ pub fn one_answer()
     ensures { (holds : Contents) (arguments : Sim (List ℕ)) → IsOne (sim holds arguments) }
 {
     vlog_text::reader::laws::one_module();
-    cycle_file::rows::laws::one_reading();
-    cycle_file::cycles::laws::one_text();
+    cycle_sim::rows::laws::one_reading();
+    cycle_sim::cycles::laws::one_text();
 }

@@ -8,7 +8,7 @@ ghost use Rattle.xls_cmd.specs.Sim.Simulation.{sim, sim_files, sim_texts};
 use crate::shared::{Refusal, load};
 use crate::sim::source::{read_module, rows_of};
 use cmd_line::Sim;
-use cycle_file::cycles::simulate;
+use cycle_sim::cycles::simulate;
 use std::alloc::Global;
 use xb_io::Files;
 

@@ -5,11 +5,11 @@ ghost use Rattle.std.specs.List.{AllByRecursion};
 ghost use Rattle.xls_cmd.specs.Shared.Done.{StopsBy};
 ghost use Rattle.vlog_tree.specs.WellFormed.{CanRun};
 ghost use Rattle.vlog_tree.specs.Rows.{IsRowOf};
-ghost use Rattle.cycle_file.specs.Rows.RowFile.{count_rows};
+ghost use Rattle.cycle_sim.specs.Rows.RowFile.{count_rows};
 ghost use Rattle.xls_cmd.specs.Sim.Simulation.{ReadsModule, ReadsRows};
 
 use crate::shared::{Fault, Refusal, read_text};
-use cycle_file::rows::{Repeated, RowError, read_rows};
+use cycle_sim::rows::{Repeated, RowError, read_rows};
 use sqlite_items::Items;
 use std::alloc::Global;
 use vlog_text::reader::read_v;
@@ -44,7 +44,7 @@ pub fn rows_of<'a>(
     ensures few { IfOk result (λ rows. count_rows rows ≤ 1048576) }
     ensures refused { IfErr result (StopsBy (ReadsRows name.entry.now file.now design.now)) }
 {
-    cycle_file::rows::laws::rows_fit();
+    cycle_sim::rows::laws::rows_fit();
     match read_rows(alloc, file, design) {
         Ok(rows) => Ok(rows),
         Err(RowError::Input(cause, at)) => Err(Refusal::Fault(Fault::Input(name, cause, at))),

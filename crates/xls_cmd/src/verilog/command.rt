@@ -1,5 +1,5 @@
 ghost use Rattle.std.specs.Prelude.{◌<◌, ◌≤◌, ◌^◌, Ok, length, IfOk, IfErr};
-ghost use Rattle.ir_verify.specs.Verified.{IsVerified};
+ghost use Rattle.ir_tree.specs.Rules.Verified.{IsVerified};
 ghost use Rattle.xls_cmd.specs.Shared.Done.{IsDone, StopsBy};
 ghost use Rattle.xls_cmd.specs.Shared.Events.{file_events};
 ghost use Rattle.xls_cmd.specs.Shared.Step.{ExpectedBy};

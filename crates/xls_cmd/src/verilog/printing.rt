@@ -2,7 +2,7 @@
 
 ghost use Rattle.std.specs.Prelude.{◌≡◌, Ok, IfOk, IfErr};
 ghost use Rattle.ir_tree.specs.Networks.{network_of};
-ghost use Rattle.ir_verify.specs.Verified.{IsVerified};
+ghost use Rattle.ir_tree.specs.Rules.Verified.{IsVerified};
 ghost use Rattle.block_verilog.specs.Modules.{HaveSlots};
 ghost use Rattle.pipe_schedule.specs.declared.schedule.Demands.{Demands as SomeDemands};
 ghost use Rattle.pipe_schedule.specs.Packages.{AreSchedules};
@@ -12,8 +12,8 @@ ghost use Rattle.xls_cmd.specs.Verilog.Commands.{PrintsModule};
 
 use crate::design::depths;
 use crate::shared::Refusal;
-use block_text::printing::print_package;
 use block_verilog::build::BuildError;
+use block_verilog::printing::print_package;
 use ir_tree::{Package, net_of};
 use pipe_schedule::Schedule;
 use std::alloc::{AllocError, Global};

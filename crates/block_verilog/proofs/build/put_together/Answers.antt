@@ -1,7 +1,7 @@
 use Rattle.std.proofs.Common.{◌+◌, ◌<◌, ◌^◌, sym, ap, ◌∙◌, subst, arith}
 use Rattle.std.specs.Prelude.{map}
 use Rattle.vlog_tree.specs.Signals.{declared_port}
-use Rattle.block_netlist.specs.Registers.{next_register}
+use Rattle.block_build.specs.Netlist.Registers.{next_register}
 use Rattle.block_verilog.specs.Put.{AllPut}
 use Rattle.block_verilog.proofs.OnBuild.{ok_then, module_made, few_registers, ports_counted}
 use Rattle.block_verilog.proofs.build.put_together.Goals as goal

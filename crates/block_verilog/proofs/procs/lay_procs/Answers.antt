@@ -1,5 +1,5 @@
 use Rattle.std.proofs.Common.{arith}
-use Rattle.block_pipelines.specs.Pipelines.{scheduled}
+use Rattle.block_verilog.specs.Pipelines.Pipelines.{scheduled}
 use Rattle.block_verilog.proofs.OnProcs.{scheduled_is, procs_begun, procs_more, procs_done}
 use Rattle.block_verilog.proofs.procs.lay_procs.Goals as goal
 

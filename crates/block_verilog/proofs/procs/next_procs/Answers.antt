@@ -1,5 +1,5 @@
 use Rattle.std.proofs.Common.{arith, ap, length, ◌≡◌}
-use Rattle.block_pipelines.specs.Pipelines.{scheduled}
+use Rattle.block_verilog.specs.Pipelines.Pipelines.{scheduled}
 use Rattle.block_verilog.proofs.OnProcs.{scheduled_is, next_begun, next_step, next_done, made_long}
 use Rattle.block_verilog.proofs.procs.next_procs.Goals as goal
 

@@ -1,6 +1,6 @@
 use Rattle.std.proofs.Common.{◌≡◌, map, length, List}
 use Rattle.ir_tree.specs.declared.package.Channel.{Channel}
-use Rattle.block_module.specs.Each.{EachFrom}
+use Rattle.block_verilog.specs.Each.{EachFrom}
 use Rattle.block_verilog.specs.Procs.{MadeProc, IsMadeProc}
 use Rattle.block_verilog.proofs.OnProcs.{NextSoFar}
 use Rattle.block_verilog.proofs.procs.next_procs.Given as goal

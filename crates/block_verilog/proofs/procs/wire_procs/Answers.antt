@@ -1,5 +1,5 @@
 use Rattle.std.proofs.Common.{arith}
-use Rattle.block_pipelines.specs.Pipelines.{scheduled}
+use Rattle.block_verilog.specs.Pipelines.Pipelines.{scheduled}
 use Rattle.block_verilog.proofs.OnProcs.{scheduled_is, made_begun, made_more, made_done}
 use Rattle.block_verilog.proofs.procs.wire_procs.Goals as goal
 

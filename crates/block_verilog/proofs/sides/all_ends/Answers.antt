@@ -1,6 +1,6 @@
 use Rattle.std.proofs.Common.{ap, length, get_or}
 use Rattle.block_verilog.specs.Sides.{IsEnd}
-use Rattle.block_module.proofs.Lemmas.Each.{same_or, longer, wires_begun, wires_more}
+use Rattle.block_verilog.proofs.Lemmas.Each.{same_or, longer, wires_begun, wires_more}
 use Rattle.block_verilog.proofs.OnEnds.{end_is}
 use Rattle.block_verilog.proofs.sides.all_ends.Goals as goal
 

@@ -1,6 +1,6 @@
 use Rattle.std.proofs.Common.{◌≡◌, length}
-use Rattle.block_netlist.specs.Added.{AddsWires}
-use Rattle.block_module.specs.Each.{EachFrom}
+use Rattle.block_build.specs.Netlist.Added.{AddsWires}
+use Rattle.block_verilog.specs.Each.{EachFrom}
 use Rattle.block_verilog.specs.Sides.{IsEnd}
 use Rattle.block_verilog.proofs.sides.all_ends.Given as goal
 

@@ -1,6 +1,6 @@
 use Rattle.std.proofs.Common.{subst}
 use Rattle.std.specs.Prelude.{IfOk}
-use Rattle.block_netlist.specs.Added.{AddsWires}
+use Rattle.block_build.specs.Netlist.Added.{AddsWires}
 use Rattle.block_verilog.specs.Sides.{WordAt}
 use Rattle.block_verilog.proofs.OnEnds.{word_put}
 use Rattle.block_verilog.proofs.sides.word_at.Goals as goal

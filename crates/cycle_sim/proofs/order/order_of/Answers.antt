@@ -1,6 +1,6 @@
 use Rattle.std.proofs.Common.{◌≡◌, ◌∙◌, ℕ, length, All, List, map, sym, ap, subst, Option}
-use Rattle.topo_order.specs.Needs.{AreClosed, IsOrderOf, Reaches}
-use Rattle.topo_order.specs.Sorted.{IsSorting}
+use Rattle.base.specs.TopoOrder.Needs.{AreClosed, IsOrderOf, Reaches}
+use Rattle.base.specs.TopoOrder.Sorted.{IsSorting}
 use Rattle.vlog_tree.specs.Signals.{signals}
 use Rattle.cycle_sim.specs.Drivers.{AreDrivers, needs_by}
 use Rattle.cycle_sim.proofs.RunOrder.{all_reads_inside, runs_closed, runs_in_order, runs_without_cycle}

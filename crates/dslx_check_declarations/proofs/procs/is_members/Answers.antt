@@ -1,5 +1,5 @@
 use Rattle.std.proofs.Common.{◌≡◌, ◌∙◌, ◌&&◌, ◌<◌, ◌+◌, true, false, length, drop, arith, refl, sym, ap, subst}
-use Rattle.dslx_check_nodes.proofs.Lemmas.Lists.{pair_at, pairs_long}
+use Rattle.dslx_check_rules.proofs.Lemmas.Nodes.Lists.{pair_at, pairs_long}
 use Rattle.dslx_check_declarations.specs.Ends.{IsNamed}
 use Rattle.dslx_check_declarations.specs.Procs.{are_members, is_member_of}
 use Rattle.dslx_check_declarations.proofs.OnProcs.{member_step, no_member_left, not_as_many}

@@ -4,7 +4,7 @@ use Rattle.dslx_meaning.specs.Rules.ProcRules as the
 use Rattle.dslx_meaning.specs.Rules.TypeEnvs.{ChannelEnd}
 use Rattle.dslx_check_rules.specs.Interned.{AreDistinct, ItemNames}
 use Rattle.dslx_check_rules.specs.declared.table.row.TypeRow.{TypeRow}
-use Rattle.dslx_check_nodes.specs.Parts.{Pairs}
+use Rattle.dslx_check_rules.specs.Nodes.Parts.{Pairs}
 use Rattle.dslx_check_declarations.specs.Config.{MeansEnds}
 use Rattle.dslx_check_declarations.specs.Ends.{IsNamed}
 use Rattle.dslx_check_declarations.specs.Procs.{are_members}

@@ -4,7 +4,7 @@ use Rattle.std.proofs.lemmas.List.Elements.{All-push}
 use Rattle.std.proofs.lemmas.List.{take_more}
 use Rattle.dslx_meaning.specs.Lists.{all_some}
 use Rattle.dslx_check_rules.specs.Interned.{HasRow}
-use Rattle.dslx_check_nodes.proofs.Lemmas.Lists.{one_missing, there_next}
+use Rattle.dslx_check_rules.proofs.Lemmas.Nodes.Lists.{one_missing, there_next}
 use Rattle.dslx_check_declarations.proofs.structs.all_there.Goals as goal
 
 pub returns-in-None-clause-is : goal.returns-in-None-clause-is

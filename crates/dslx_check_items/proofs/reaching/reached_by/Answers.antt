@@ -1,6 +1,6 @@
 use Rattle.std.proofs.Common.{◌≡◌, ◌∙◌, ℕ, List, Bool, Some, length, refl, sym, ap, subst, arith}
 use Rattle.std.specs.Prelude.{MatchBool, slice_get}
-use Rattle.topo_order.specs.Needs.{AreClosed, AreGroups, Reaches}
+use Rattle.base.specs.TopoOrder.Needs.{AreClosed, AreGroups, Reaches}
 use Rattle.dslx_check_items.proofs.reaching.reached_by.Goals as goal
 
 pub groups_of-requires-clause-closed : goal.groups_of-requires-clause-closed

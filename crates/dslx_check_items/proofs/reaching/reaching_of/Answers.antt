@@ -1,6 +1,6 @@
 use Rattle.std.proofs.Common.{ℕ, List, length, sym, ap, ◌∙◌, subst, arith}
 use Rattle.std.specs.Prelude.{IfOk}
-use Rattle.topo_order.specs.Needs.{AreClosed}
+use Rattle.base.specs.TopoOrder.Needs.{AreClosed}
 use Rattle.dslx_check_items.specs.Reaching.{AreReached}
 use Rattle.dslx_check_items.proofs.OnReaching.Reached.{as_many, needs_closed}
 use Rattle.dslx_check_items.proofs.reaching.reaching_of.Goals as goal

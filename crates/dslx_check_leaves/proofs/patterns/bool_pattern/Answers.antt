@@ -1,6 +1,6 @@
 use Rattle.std.proofs.Common.{false, refl}
 use Rattle.dslx_check_rules.specs.declared.table.row.TypeRow.TheVariants as row
-use Rattle.dslx_check_nodes.proofs.Lemmas.Lists.{with_row_kept}
+use Rattle.dslx_check_rules.proofs.Lemmas.Nodes.Lists.{with_row_kept}
 use Rattle.dslx_check_leaves.proofs.Lemmas.OnOneValue.{bool_walked}
 use Rattle.dslx_check_leaves.proofs.patterns.bool_pattern.Goals as goal
 

@@ -1,5 +1,5 @@
 use Rattle.dslx_check_facts.specs.Walks.{shown}
-use Rattle.dslx_check_constants.specs.TypeNames.{name_at}
+use Rattle.dslx_check_leaves.specs.Named.TypeNames.{name_at}
 use Rattle.dslx_check_leaves.proofs.Lemmas.Walking.{if_looked_up}
 use Rattle.dslx_check_leaves.proofs.types.type_of_name.Goals as goal
 

@@ -6,8 +6,8 @@ use Rattle.dslx_meaning.specs.Rules.TypeEnvs.{breaks_if}
 use Rattle.dslx_check_rules.specs.Interned.{type_if}
 use Rattle.dslx_check_rules.specs.Seen.{seen}
 use Rattle.dslx_check_facts.specs.Known.{item_names}
-use Rattle.dslx_check_nodes.specs.Nodes.Structs.{IsField, written_names}
-use Rattle.dslx_check_nodes.specs.Parts.{Pairs}
+use Rattle.dslx_check_rules.specs.Nodes.Nodes.Structs.{IsField, written_names}
+use Rattle.dslx_check_rules.specs.Nodes.Parts.{Pairs}
 use Rattle.dslx_check_uses.specs.Uses.{uneven_at, unknown_at, wanted_of}
 use Rattle.dslx_check_uses.proofs.OnFields.{others_there}
 use Rattle.dslx_check_uses.proofs.structs.declared_struct.Goals as goal

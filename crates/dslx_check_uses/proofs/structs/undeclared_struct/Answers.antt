@@ -1,6 +1,6 @@
 use Rattle.std.proofs.Common.{◌≡◌, ◌∙◌, map, subst, sym}
-use Rattle.dslx_check_nodes.specs.Nodes.Structs.{IsField}
-use Rattle.dslx_check_nodes.specs.Parts.{Pairs}
+use Rattle.dslx_check_rules.specs.Nodes.Nodes.Structs.{IsField}
+use Rattle.dslx_check_rules.specs.Nodes.Parts.{Pairs}
 use Rattle.dslx_check_uses.specs.Inner.Fields.{without_type}
 use Rattle.dslx_check_uses.specs.Uses.{unwanted}
 use Rattle.dslx_check_uses.proofs.OnFields.{unwanted_are}

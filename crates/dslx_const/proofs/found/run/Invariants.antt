@@ -1,5 +1,5 @@
 use Rattle.std.proofs.Common.{◌≡◌}
-use Rattle.dslx_names.proofs.Lemmas.ConstMachine.{comes_to}
+use Rattle.dslx_meaning.proofs.Lemmas.Names.ConstMachine.{comes_to}
 use Rattle.dslx_const_tasks.specs.Plain.{shown}
 use Rattle.dslx_const.proofs.found.run.Given as goal
 

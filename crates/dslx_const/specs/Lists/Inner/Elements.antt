@@ -5,9 +5,9 @@ use Rattle.dslx_meaning.specs.Operators.{number_value}
 use Rattle.dslx_meaning.specs.declared.ty.DslxType.{DslxType}
 use Rattle.dslx_meaning.specs.declared.value.UntypedLiteral.{UntypedLiteral}
 use Rattle.dslx_meaning.specs.declared.value.DslxValue.{DslxValue}
-use Rattle.dslx_names.specs.ConstMachine.Layers.{untyped_of}
-use Rattle.dslx_names.specs.ConstMachine.States.{doing, finds_value}
-use Rattle.dslx_names.specs.ConstMachine.Tasks.{ConstState, ListMaker, Fills, ValueDen}
+use Rattle.dslx_meaning.specs.Names.ConstMachine.Layers.{untyped_of}
+use Rattle.dslx_meaning.specs.Names.ConstMachine.States.{doing, finds_value}
+use Rattle.dslx_meaning.specs.Names.ConstMachine.Tasks.{ConstState, ListMaker, Fills, ValueDen}
 
 abbrev pub number_by : DslxType → Option UntypedLiteral → Option (Option DslxValue)
 number_by t None = None

@@ -25,7 +25,7 @@ use Rattle.dslx_core.specs.declared.expr.CoreUnary.{CoreUnary}
 use Rattle.dslx_core.specs.declared.expr.CoreUnary.TheVariants as u
 use Rattle.dslx_core.specs.declared.expr.CoreExpr as core
 use Rattle.dslx_core.specs.declared.expr.Shape as shape
-use Rattle.dslx_names.specs.ConstMachine.Layers.{field_among}
+use Rattle.dslx_meaning.specs.Names.ConstMachine.Layers.{field_among}
 use Rattle.dslx_core.specs.Lowering.CoreScopes.{CoreCallee, CoreScope, with_unnamed}
 use Rattle.dslx_core.specs.Lowering.Functions.{CoreInstance, callee_in, callee_of, instance_in}
 use Rattle.dslx_core.specs.Lowering.Lowering.{LoweredExpr, lower_call, cores_of, lower_counted, lower_field, lowered, lower_name, lower_number, lower_reduced, lower_tuple, types_of_lowered, lower_updated}

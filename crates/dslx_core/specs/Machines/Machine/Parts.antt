@@ -17,7 +17,7 @@ use Rattle.dslx_meaning.specs.declared.value.DslxValue.{DslxValue}
 use Rattle.dslx_meaning.specs.Rules.AggregateRules.{array_in}
 use Rattle.dslx_core.specs.declared.expr.CoreExpr as core
 use Rattle.dslx_core.specs.declared.expr.Shape as shape
-use Rattle.dslx_names.specs.ConstMachine.Layers.{field_among}
+use Rattle.dslx_meaning.specs.Names.ConstMachine.Layers.{field_among}
 use Rattle.dslx_core.specs.Lowering.CoreScopes.{CoreScope, constant_at}
 use Rattle.dslx_core.specs.Lowering.Lowering.{LoweredExpr, lower_call, cores_of, lower_field, lowered, lower_name, lower_number, types_of_lowered}
 use Rattle.dslx_core.specs.Lowering.Trees.{lower_array_elements, lower_filled, of_type, lower_type_of_text}

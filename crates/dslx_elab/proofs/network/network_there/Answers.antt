@@ -3,7 +3,7 @@ use Rattle.xb_span.specs.declared.read_error.ReadError.{ReadError}
 use Rattle.xb_span.specs.declared.read_error.ReadError.TheVariants.{OutOfMemory}
 use Rattle.net_core.specs.declared.net.Net.{Net}
 use Rattle.dslx_core.specs.Designs.{core_network}
-use Rattle.dslx_network.specs.DslxBodies.{behavior_of}
+use Rattle.dslx_interp.specs.Network.DslxBodies.{behavior_of}
 use Rattle.dslx_elab.specs.Runs.{RunsText}
 use Rattle.dslx_elab.proofs.OnRuns.{err_handed, only_memory}
 use Rattle.dslx_elab.proofs.network.network_there.Goals as goal

@@ -4,7 +4,7 @@ use Rattle.net_core.specs.declared.net.Net.{Net}
 use Rattle.std.proofs.lemmas.List.{length-map}
 use Rattle.dslx_meaning.specs.Network.{network_of}
 use Rattle.dslx_core.specs.Designs.{core_family, core_head, core_network}
-use Rattle.dslx_network.specs.Limits.{network_limit}
+use Rattle.dslx_interp.specs.Network.Limits.{network_limit}
 use Rattle.dslx_elab.proofs.OnRuns.{within_limits}
 use Rattle.dslx_elab.proofs.runs.accepted_texts_run.Goals as goal
 

@@ -1,5 +1,5 @@
 use Rattle.std.proofs.Common.{subst}
-use Rattle.grammar.specs.Derivation.{IsDerivation}
+use Rattle.base.specs.Grammar.Derivation.{IsDerivation}
 use Rattle.dslx_token.specs.Rules.Dslx.{dslx}
 use Rattle.dslx_parser.proofs.OneTree.{sentence_deep}
 use Rattle.dslx_parser.proofs.reader.depth_fault.Goals as goal

@@ -1,5 +1,5 @@
 use Rattle.std.proofs.Common.{sym, subst}
-use Rattle.grammar.specs.Answer.{EndsWith}
+use Rattle.base.specs.Grammar.Answer.{EndsWith}
 use Rattle.dslx_token.specs.declared.rules.generated.kind.TheConstants.{END}
 use Rattle.dslx_parser.proofs.reader.judged.Goals as goal
 

@@ -1,5 +1,5 @@
 use Rattle.std.proofs.Common.{◌∙◌, ap, subst, take}
-use Rattle.grammar.specs.Derivation.{IsBeginning, IsSentence}
+use Rattle.base.specs.Grammar.Derivation.{IsBeginning, IsSentence}
 use Rattle.base.specs.Lists.Fault.{IsFirstFault}
 use Rattle.dslx_token.specs.Rules.Dslx.{dslx}
 use Rattle.dslx_parser.proofs.OneTree.{fault_within}

@@ -1,6 +1,6 @@
 use Rattle.std.proofs.Common.{refl, subst, ap, arith, length}
 use Rattle.std.specs.Prelude.{slice_get}
-use Rattle.grammar.specs.Derivation.{IsSentence}
+use Rattle.base.specs.Grammar.Derivation.{IsSentence}
 use Rattle.base.specs.Lists.Fault.{IsFirstFault}
 use Rattle.dslx_token.specs.Rules.Dslx.{dslx}
 use Rattle.dslx_parser.proofs.OneTree.{fault_at, kinds_length}

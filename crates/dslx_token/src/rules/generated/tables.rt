@@ -3,8 +3,8 @@
 //! The tables of the grammar.
 
 use super::{kind, nonterminal};
-use grammar::Symbol::{Nonterminal, Terminal};
-use grammar::{Production, Span, Symbol};
+use base::grammar::Symbol::{Nonterminal, Terminal};
+use base::grammar::{Production, Span, Symbol};
 
 /// The bodies of the productions, one behind the other.
 pub static SYMBOLS: [Symbol; 481] = [

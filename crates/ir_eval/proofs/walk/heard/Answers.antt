@@ -1,7 +1,7 @@
 use Rattle.std.proofs.Common.{◌≡◌, sym, subst, Some, ap, ◌∙◌}
 use Rattle.std.specs.Prelude.{slice_get}
 use Rattle.std.specs.Option.{option_copied}
-use Rattle.ir_verify.specs.Typed.Typed.{IsWordType}
+use Rattle.ir_tree.specs.Rules.Typed.Typed.{IsWordType}
 use Rattle.ir_eval.proofs.walk.heard.Goals as goal
 
 pub word_value-requires : goal.word_value-requires

@@ -1,5 +1,5 @@
 use Rattle.std.proofs.Common.{◌≡◌, take, map}
-use Rattle.ir_lower_words.specs.Literals.{written}
+use Rattle.ir_lower_nodes.specs.Words.Literals.{written}
 use Rattle.ir_lower.proofs.constants.+written.Given as goal
 
 abbrev pub invariant-all_written-values : goal.invariant-all_written-values

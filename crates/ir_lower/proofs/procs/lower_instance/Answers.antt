@@ -1,7 +1,7 @@
 use Rattle.std.proofs.Common.{◌∙◌, ap, map, subst, sym}
 use Rattle.ir_lower.specs.Deep.{word_type}
 use Rattle.ir_lower.specs.Inner.Made.{ProcLowers}
-use Rattle.ir_lower_types.specs.Typed.{InstanceTyped}
+use Rattle.ir_lower.specs.Types.Typed.{InstanceTyped}
 use Rattle.ir_lower.proofs.procs.lower_instance.Goals as goal
 
 pub returns : goal.returns

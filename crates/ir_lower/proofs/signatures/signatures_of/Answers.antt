@@ -1,6 +1,6 @@
 use Rattle.std.proofs.Common.{subst}
-use Rattle.ir_lower_exprs.specs.Calls.{AreNodeFunctions}
-use Rattle.ir_lower_types.specs.Signatures.{signatures_of}
+use Rattle.ir_lower_nodes.specs.Exprs.Calls.{AreNodeFunctions}
+use Rattle.ir_lower.specs.Types.Signatures.{signatures_of}
 use Rattle.ir_lower.proofs.signatures.signatures_of.Goals as goal
 
 pub returns : goal.returns

@@ -1,7 +1,7 @@
 use Rattle.std.proofs.Common.{◌≡◌, sym, ap, subst, ◌∙◌, Some}
 use Rattle.std.specs.Prelude.{slice_get}
 use Rattle.ir_tree.specs.SameBehavior.{SameBehavior}
-use Rattle.ir_verify.specs.Verified.{IsVerified}
+use Rattle.ir_tree.specs.Rules.Verified.{IsVerified}
 use Rattle.ir_rebuild.specs.Walks.{EachProcRebuildsTo}
 use Rattle.ir_rebuild.proofs.Packages.{AllRebuilt, with_procs, checked_proc, item_there, read_more, all_procs, all_verified, all_same}
 use Rattle.ir_rebuild.proofs.Walked.{became_more, all_became}

@@ -3,8 +3,8 @@ use Rattle.std.specs.Prelude.{◌≡◌, ◌≤◌, ◌<◌, ◌-◌, ℕ, List,
 use Rattle.std.specs.List.{Contains}
 use Rattle.xb_span.specs.declared.span.Span.{Span}
 use Rattle.dslx_token.specs.Lexeme.{Lexeme}
-use Rattle.ir_verify.specs.declared.line_spans.LineSpans.{LineSpans}
-use Rattle.ir_verify.specs.declared.line_spans.ProcSpans.{ProcSpans}
+use Rattle.ir_tree.specs.declared.rules.line_spans.LineSpans.{LineSpans}
+use Rattle.ir_tree.specs.declared.rules.line_spans.ProcSpans.{ProcSpans}
 use Rattle.ir_builder.specs.declared.builder.Spanned.{Spanned}
 use Rattle.ir_text.specs.Parser.Texts.{IsIrTextOf}
 

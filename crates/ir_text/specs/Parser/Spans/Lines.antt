@@ -1,17 +1,17 @@
 -- Lines of a text: the tokens that each is made of, and their span.
 use Rattle.std.specs.Prelude.{◌≡◌, ℕ, List, [], ◌∷◌, ◌++◌, Option, Some, option_map, slice_get}
-use Rattle.grammar.specs.declared.table.Symbol.{Symbol}
-use Rattle.grammar.specs.declared.table.Symbol.TheVariants.{Terminal, Nonterminal}
-use Rattle.grammar.specs.Tree.{Forest, Grows, leaves_of}
+use Rattle.base.specs.declared.grammar.table.Symbol.{Symbol}
+use Rattle.base.specs.declared.grammar.table.Symbol.TheVariants.{Terminal, Nonterminal}
+use Rattle.base.specs.Grammar.Tree.{Forest, Grows, leaves_of}
 use Rattle.xb_span.specs.declared.span.Span.{Span}
 use Rattle.delay_model.specs.Names.{op_named}
 use Rattle.delay_model.specs.declared.op.Op.{Op}
 use Rattle.dslx_token.specs.Lexeme.{Lexeme}
-use Rattle.ir_token.specs.declared.rules.generated.kind.TheConstants as kind
-use Rattle.ir_token.specs.declared.rules.generated.nonterminal.TheConstants as nonterminal
-use Rattle.ir_token.specs.Rules.Ir.{ir}
-use Rattle.ir_token.specs.Kinds.{op_part}
-use Rattle.ir_token.specs.Said.{id_said}
+use Rattle.ir_builder.specs.declared.token.rules.generated.kind.TheConstants as kind
+use Rattle.ir_builder.specs.declared.token.rules.generated.nonterminal.TheConstants as nonterminal
+use Rattle.ir_builder.specs.Token.Rules.Ir.{ir}
+use Rattle.ir_builder.specs.Token.Kinds.{op_part}
+use Rattle.ir_builder.specs.Token.Said.{id_said}
 use Rattle.ir_builder.specs.Rules.{reach}
 use Rattle.ir_text.specs.Parser.Reads.{kinds_of}
 

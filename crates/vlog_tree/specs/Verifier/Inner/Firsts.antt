@@ -3,7 +3,7 @@ use Rattle.std.specs.Prelude.{◌≡◌, ℕ, ◌<◌, List, [], ◌∷◌, if�
 use Rattle.vlog_tree.specs.Forms.{reads}
 use Rattle.vlog_tree.specs.declared.module.VModule.{VModule}
 use Rattle.vlog_tree.specs.declared.module.Assignment.{Assignment}
-use Rattle.topo_order.specs.Needs.{Needs}
+use Rattle.base.specs.TopoOrder.Needs.{Needs}
 use Rattle.vlog_tree.specs.Verifier.Parts.{count_of, role_at, is_driven}
 use Rattle.vlog_tree.specs.Verifier.Loops.{ReadsWire, Depends}
 

@@ -1,7 +1,7 @@
 use Rattle.std.proofs.Common.{◌≡◌, refl, subst, sym}
 use Rattle.std.specs.Prelude.{MatchBool}
 use Rattle.std.proofs.lemmas.Result.{on_ok_weaker}
-use Rattle.dslx_check_work.specs.Learnt.{LearnsItem}
+use Rattle.dslx_check_declarations.specs.Work.Learnt.{LearnsItem}
 use Rattle.dslx_check_tasks.proofs.work.Work.tell_item.Goals as goal
 
 pub returns-then-learns : goal.returns-then-learns

@@ -3,7 +3,7 @@ use Rattle.std.proofs.lemmas.Result.{on_ok_weaker}
 use Rattle.dslx_meaning.specs.declared.value.DslxValue.{DslxValue}
 use Rattle.dslx_check_facts.specs.Walks.{shown}
 use Rattle.dslx_check_facts.proofs.Lemmas.Walks.{grows_trans, misses_grows}
-use Rattle.dslx_check_instances.specs.Judged.{JudgesInstance}
+use Rattle.dslx_check_judge.specs.Instances.Judged.{JudgesInstance}
 use Rattle.dslx_check_tasks.proofs.OnInstances.{instance_goes}
 use Rattle.dslx_check_tasks.proofs.Lemmas.Standing.{postponed}
 use Rattle.dslx_check_tasks.proofs.work.Work.walk_instance.Goals as goal

@@ -2,7 +2,7 @@ use Rattle.std.proofs.Common.{◌+◌, ◌∙◌, List, Some, ap, drop, refl, sy
 use Rattle.dslx_core.specs.declared.design.MadeChannel.{MadeChannel}
 use Rattle.dslx_core.specs.Networks.Configs.{lower_made}
 use Rattle.dslx_scope_names.specs.Values.Seen.{scope_seen}
-use Rattle.dslx_scope_patterns.proofs.Lemmas.Numbers.InOrder.{behind}
+use Rattle.dslx_scope_names.proofs.Lemmas.Numbers.InOrder.{behind}
 use Rattle.dslx_config.proofs.OnConfigs.InOrder.{all_made, next_made, next_missing, next_passed}
 use Rattle.dslx_config.proofs.OnConfigs.ConfigStatements.{made_channel, no_channel, spawned}
 use Rattle.dslx_config.proofs.configs.channel.made_there.Goals as goal

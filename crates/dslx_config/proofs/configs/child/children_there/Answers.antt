@@ -6,7 +6,7 @@ use Rattle.dslx_core.specs.Networks.Configs.{ProcInstance, lower_children}
 use Rattle.dslx_scope_names.specs.Values.Seen.{scope_seen}
 use Rattle.dslx_scope_names.specs.declared.values.context.ScopeEnv.{ScopeEnv}
 use Rattle.dslx_config.specs.Configs.Shown.{held}
-use Rattle.dslx_scope_patterns.proofs.Lemmas.Numbers.InOrder.{behind}
+use Rattle.dslx_scope_names.proofs.Lemmas.Numbers.InOrder.{behind}
 use Rattle.dslx_config.proofs.OnConfigs.InOrder.{all_made, next_made, next_missing, next_passed}
 use Rattle.dslx_config.proofs.OnConfigs.ConfigStatements.{channel_made, made_child, no_child}
 use Rattle.dslx_config.proofs.configs.child.children_there.Goals as goal

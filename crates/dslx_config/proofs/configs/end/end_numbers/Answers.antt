@@ -3,7 +3,7 @@ use Rattle.dslx_tree.specs.declared.ident.Ident.{Ident}
 use Rattle.dslx_meaning.specs.Network.{Held}
 use Rattle.dslx_core.specs.Networks.Ends.{end_number, end_numbers}
 use Rattle.dslx_config.specs.Configs.Shown.{held}
-use Rattle.dslx_scope_patterns.proofs.Lemmas.Numbers.InOrder.{behind}
+use Rattle.dslx_scope_names.proofs.Lemmas.Numbers.InOrder.{behind}
 use Rattle.dslx_config.proofs.OnConfigs.InOrder.{all_made, next_made, next_missing, none_first, some_first}
 use Rattle.dslx_config.proofs.configs.end.end_numbers.Goals as goal
 

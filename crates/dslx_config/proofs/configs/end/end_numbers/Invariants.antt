@@ -1,7 +1,7 @@
 use Rattle.std.proofs.Common.{◌≡◌, drop, map}
 use Rattle.dslx_core.specs.Networks.Ends.{end_numbers}
 use Rattle.dslx_config.specs.Configs.Shown.{held}
-use Rattle.dslx_scope_patterns.proofs.Lemmas.Numbers.InOrder.{behind}
+use Rattle.dslx_scope_names.proofs.Lemmas.Numbers.InOrder.{behind}
 use Rattle.dslx_config.proofs.configs.end.end_numbers.Given as goal
 
 abbrev pub invariant-names : goal.invariant-names

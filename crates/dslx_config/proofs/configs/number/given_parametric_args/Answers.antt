@@ -5,7 +5,7 @@ use Rattle.dslx_meaning.specs.declared.value.DslxValue.{DslxValue}
 use Rattle.dslx_core.specs.Lowering.CoreScopes.{constant_at}
 use Rattle.dslx_scope_names.specs.Values.Seen.{scope_seen}
 use Rattle.dslx_scope_names.specs.declared.values.context.ScopeEnv.{ScopeEnv}
-use Rattle.dslx_scope_patterns.proofs.Lemmas.Numbers.InOrder.{behind}
+use Rattle.dslx_scope_names.proofs.Lemmas.Numbers.InOrder.{behind}
 use Rattle.dslx_config.proofs.OnConfigs.InOrder.{all_made, next_made, next_missing, none_first, some_first}
 use Rattle.dslx_config.proofs.configs.number.given_parametric_args.Goals as goal
 

@@ -5,7 +5,7 @@ use Rattle.dslx_core.specs.declared.design.Outer.{Outer}
 use Rattle.dslx_core.specs.Networks.Assembly.{lower_outer}
 use Rattle.dslx_scope_names.specs.Values.Seen.{scope_seen}
 use Rattle.dslx_scope_names.specs.declared.values.context.ScopeEnv.{ScopeEnv}
-use Rattle.dslx_scope_patterns.proofs.Lemmas.Numbers.InOrder.{behind}
+use Rattle.dslx_scope_names.proofs.Lemmas.Numbers.InOrder.{behind}
 use Rattle.dslx_config.proofs.OnConfigs.InOrder.{all_made, next_made, next_missing, none_first, some_first}
 use Rattle.dslx_config.proofs.configs.outer.outers_at.Goals as goal
 

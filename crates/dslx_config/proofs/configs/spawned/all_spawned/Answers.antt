@@ -4,7 +4,7 @@ use Rattle.dslx_core.specs.Lowering.Functions.{Instantiated}
 use Rattle.dslx_scope_names.specs.Values.Seen.{scope_seen}
 use Rattle.dslx_scope_names.specs.declared.values.context.ScopeEnv.{ScopeEnv}
 use Rattle.dslx_config.specs.Configs.Spawned.{spawned_instances}
-use Rattle.dslx_scope_patterns.proofs.Lemmas.Numbers.InOrder.{behind}
+use Rattle.dslx_scope_names.proofs.Lemmas.Numbers.InOrder.{behind}
 use Rattle.dslx_config.proofs.OnConfigs.InOrder.{all_made, next_made, next_missing, next_passed}
 use Rattle.dslx_config.proofs.OnConfigs.ConfigStatements.{channel_spawns_none, no_instance, spawned_first}
 use Rattle.dslx_config.proofs.configs.spawned.all_spawned.Goals as goal

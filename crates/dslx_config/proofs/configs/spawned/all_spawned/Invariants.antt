@@ -1,7 +1,7 @@
 use Rattle.std.proofs.Common.{◌≡◌, drop}
 use Rattle.dslx_scope_names.specs.Values.Seen.{scope_seen}
 use Rattle.dslx_config.specs.Configs.Spawned.{spawned_instances}
-use Rattle.dslx_scope_patterns.proofs.Lemmas.Numbers.InOrder.{behind}
+use Rattle.dslx_scope_names.proofs.Lemmas.Numbers.InOrder.{behind}
 use Rattle.dslx_config.proofs.configs.spawned.all_spawned.Given as goal
 
 abbrev pub invariant-config_statements : goal.invariant-config_statements

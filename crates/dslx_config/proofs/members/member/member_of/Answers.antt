@@ -5,7 +5,7 @@ use Rattle.dslx_meaning.specs.declared.ty.DslxType.{DslxType}
 use Rattle.dslx_core.specs.Lowering.Steps.{can_travel}
 use Rattle.dslx_core.specs.Lowering.Trees.{lower_type_of_text}
 use Rattle.dslx_core.specs.Machines.Machine.Callees.{CalleesByName}
-use Rattle.dslx_scope_patterns.specs.Patterns.Behind.{body_scope}
+use Rattle.dslx_scope_names.specs.Patterns.Behind.{body_scope}
 use Rattle.dslx_config.specs.Members.Members.{numbered_member}
 use Rattle.dslx_config.proofs.members.member.member_of.Goals as goal
 

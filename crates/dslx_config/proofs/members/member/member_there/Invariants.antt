@@ -1,7 +1,7 @@
 use Rattle.std.proofs.Common.{◌≡◌, [], drop}
 use Rattle.dslx_core.specs.Machines.Machine.Callees.{CalleesByName}
 use Rattle.dslx_core.specs.Lowering.Steps.{member_in}
-use Rattle.dslx_scope_patterns.specs.Patterns.Behind.{body_scope}
+use Rattle.dslx_scope_names.specs.Patterns.Behind.{body_scope}
 use Rattle.dslx_config.proofs.OnMembers.Numbered.{member_from}
 use Rattle.dslx_config.proofs.members.member.member_there.Given as goal
 

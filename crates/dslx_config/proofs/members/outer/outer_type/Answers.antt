@@ -4,7 +4,7 @@ use Rattle.dslx_meaning.specs.declared.ty.DslxType.{DslxType}
 use Rattle.dslx_core.specs.Lowering.CoreScopes.{BoundSlot}
 use Rattle.dslx_core.specs.Lowering.Trees.{lower_type_of_text}
 use Rattle.dslx_core.specs.Machines.Machine.Callees.{CalleesByName}
-use Rattle.dslx_scope_patterns.specs.Patterns.Behind.{body_scope}
+use Rattle.dslx_scope_names.specs.Patterns.Behind.{body_scope}
 use Rattle.dslx_config.proofs.members.outer.outer_type.Goals as goal
 
 pub returns : goal.returns

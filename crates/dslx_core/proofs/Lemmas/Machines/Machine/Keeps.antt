@@ -1,6 +1,6 @@
 -- Each step in a body keeps what comes of it, whatever instances are still to be done.
 use Rattle.dslx_core.specs.Machines.Machine.Arms.{shaped_at}
-use Rattle.dslx_names.specs.ConstMachine.Layers.{written}
+use Rattle.dslx_meaning.specs.Names.ConstMachine.Layers.{written}
 use Rattle.dslx_meaning.specs.declared.value.SignedWord.{SignedWord}
 use Rattle.dslx_meaning.specs.Operators.{number_value}
 use Rattle.dslx_tree.specs.declared.type_expr.TypeExpr.{TypeExpr}

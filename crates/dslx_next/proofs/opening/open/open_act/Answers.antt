@@ -1,6 +1,6 @@
 use Rattle.std.proofs.Common.{IfOk, subst, sym}
-use Rattle.dslx_names.specs.declared.sites.Act.{Act}
-use Rattle.dslx_names.specs.Sites.Acts.{act_shown}
+use Rattle.dslx_meaning.specs.declared.names.sites.Act.{Act}
+use Rattle.dslx_meaning.specs.Names.Sites.Acts.{act_shown}
 use Rattle.dslx_next.specs.Opening.Works.{BodyMakes, opened_at}
 use Rattle.dslx_next.proofs.opening.open.open_act.Goals as goal
 

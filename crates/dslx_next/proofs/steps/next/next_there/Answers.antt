@@ -1,7 +1,7 @@
 use Rattle.std.proofs.Common.{◌∙◌, ◌&&◌, List, Some, ap, map, not, reverse, sym}
 use Rattle.std.proofs.lemmas.Result.{IfOk-weaker}
-use Rattle.dslx_names.specs.Bound.{given}
-use Rattle.dslx_names.specs.declared.scope.Binding.{Binding}
+use Rattle.dslx_meaning.specs.Names.Bound.{given}
+use Rattle.dslx_meaning.specs.declared.names.scope.Binding.{Binding}
 use Rattle.dslx_core.specs.Lowering.Functions.{callee_in, parametric_args_are_well_typed, outer_scope}
 use Rattle.dslx_core.specs.Lowering.Steps.{is_sized, lower_next, steps_from}
 use Rattle.dslx_core.specs.Lowering.Trees.{lower_type_of_text}

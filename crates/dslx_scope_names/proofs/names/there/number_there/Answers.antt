@@ -1,7 +1,7 @@
 use Rattle.std.proofs.Common.{◌≡◌, ℕ, Some, None, refl}
 use Rattle.std.proofs.lemmas.Result.{IfOk-weaker}
 use Rattle.dslx_meaning.specs.Operators.{number_value}
-use Rattle.dslx_names.specs.ConstMachine.Layers.{written}
+use Rattle.dslx_meaning.specs.Names.ConstMachine.Layers.{written}
 use Rattle.dslx_core.specs.Machines.Machine.Callees.{CalleesByName}
 use Rattle.dslx_core.specs.Machines.Machine.Steps.{number_at}
 use Rattle.dslx_scope_names.specs.Values.Seen.{scope_with}

@@ -1,5 +1,5 @@
 use Rattle.std.proofs.Common.{◌≡◌, ◌++◌, drop, map, reverse}
-use Rattle.dslx_names.specs.Bound.{given}
+use Rattle.dslx_meaning.specs.Names.Bound.{given}
 use Rattle.dslx_scope_names.proofs.values.context.bind_parametric_args.Given as goal
 
 -- those that are left complete the whole

@@ -1,5 +1,5 @@
 use Rattle.std.proofs.Common.{◌≡◌, ◌∙◌, ap, get_or, refl}
-use Rattle.grammar.specs.Syntax.{rules_of}
+use Rattle.base.specs.Grammar.Syntax.{rules_of}
 use Rattle.dslx_token.specs.Rules.Dslx.{dslx}
 use Rattle.dslx_token.specs.BracketClasses.Takers.{body_of}
 use Rattle.dslx_token.proofs.OnBracketClasses.Taking.{rule_step}

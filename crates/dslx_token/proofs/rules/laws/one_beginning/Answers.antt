@@ -1,5 +1,5 @@
 use Rattle.std.proofs.Common.{◌≡◌, ℕ, List, subst}
-use Rattle.grammar.specs.Derivation.{IsBeginning}
+use Rattle.base.specs.Grammar.Derivation.{IsBeginning}
 use Rattle.dslx_token.proofs.rules.laws.one_beginning.Goals as goal
 
 pub returns : goal.returns

@@ -1,5 +1,5 @@
 use Rattle.std.proofs.Common.{refl}
-use Rattle.grammar.specs.Ll1.{is_ll1}
+use Rattle.base.specs.Grammar.Ll1.{is_ll1}
 use Rattle.dslx_token.proofs.rules.reader.grammar.Goals as goal
 
 pub returns-clause-valid : goal.returns-clause-valid

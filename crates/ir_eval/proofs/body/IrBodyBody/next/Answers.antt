@@ -1,8 +1,8 @@
 use Rattle.std.proofs.Common.{◌≡◌, ◌≤◌, sym, length, ap, ◌∙◌, arith, subst, IfOk, Ok, Err, Result}
 use Rattle.std.proofs.lemmas.List.{drop_all}
 use Rattle.net_core.specs.declared.event.Event.{Event}
-use Rattle.ir_verify.specs.Typed.Typed.{AreChannels}
-use Rattle.ir_verify.proofs.Lemmas.Typed.{verified_proc}
+use Rattle.ir_tree.specs.Rules.Typed.Typed.{AreChannels}
+use Rattle.ir_tree.proofs.Lemmas.Rules.Typed.{verified_proc}
 use Rattle.ir_tree.specs.Activations.{sites_of}
 use Rattle.ir_eval.specs.Inner.Walks.{StandsAt}
 use Rattle.ir_eval.proofs.WalkSteps.{moved, stands_first, end_next}

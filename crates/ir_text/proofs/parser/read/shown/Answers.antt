@@ -1,7 +1,7 @@
 use Rattle.std.proofs.Common.{sym, subst}
-use Rattle.grammar.specs.Answer.{EndsWith}
-use Rattle.ir_token.specs.declared.rules.generated.kind.TheConstants.{END}
-use Rattle.ir_token.specs.Tokens.{AreIrTokens, IsTokenRefusal}
+use Rattle.base.specs.Grammar.Answer.{EndsWith}
+use Rattle.ir_builder.specs.declared.token.rules.generated.kind.TheConstants.{END}
+use Rattle.ir_builder.specs.Token.Tokens.{AreIrTokens, IsTokenRefusal}
 use Rattle.ir_text.specs.Parser.Reads.{kinds_of}
 use Rattle.ir_text.proofs.OnParser.LastToken.{ended}
 use Rattle.ir_text.proofs.OnParser.OnePackage.{reading_refused, tokens_refused}

@@ -1,6 +1,6 @@
 use Rattle.std.proofs.Common.{sym, subst}
-use Rattle.grammar.specs.Answer.{EndsWith}
-use Rattle.ir_token.specs.declared.rules.generated.kind.TheConstants.{END}
+use Rattle.base.specs.Grammar.Answer.{EndsWith}
+use Rattle.ir_builder.specs.declared.token.rules.generated.kind.TheConstants.{END}
 use Rattle.ir_text.proofs.parser.reader.judged.Goals as goal
 
 pub parse-requires : goal.parse-requires

@@ -1,7 +1,7 @@
 use Rattle.std.proofs.Common.{◌∙◌, sym, subst}
-use Rattle.grammar.specs.Derivation.{IsSentence}
+use Rattle.base.specs.Grammar.Derivation.{IsSentence}
 use Rattle.base.specs.Lists.Fault.{IsFirstFault}
-use Rattle.ir_token.specs.Rules.Ir.{ir}
+use Rattle.ir_builder.specs.Token.Rules.Ir.{ir}
 use Rattle.ir_text.proofs.OnParser.OneTree.{deep_before}
 use Rattle.ir_text.proofs.parser.reader.refusal.Goals as goal
 

@@ -1,8 +1,8 @@
 use Rattle.std.proofs.Common.{refl, subst, ap, arith, length, ◌≡◌}
 use Rattle.std.specs.Prelude.{slice_get}
-use Rattle.grammar.specs.Derivation.{IsSentence}
+use Rattle.base.specs.Grammar.Derivation.{IsSentence}
 use Rattle.base.specs.Lists.Fault.{IsFirstFault}
-use Rattle.ir_token.specs.Rules.Ir.{ir}
+use Rattle.ir_builder.specs.Token.Rules.Ir.{ir}
 use Rattle.ir_text.proofs.OnParser.OneTree.{fault_at, kinds_length}
 use Rattle.ir_text.proofs.parser.reader.syntax_fault.Goals as goal
 

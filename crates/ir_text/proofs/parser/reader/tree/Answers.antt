@@ -1,6 +1,6 @@
 use Rattle.std.proofs.Common.{◌∙◌, subst}
-use Rattle.grammar.specs.Derivation.{IsDerivation}
-use Rattle.ir_token.specs.Rules.Ir.{ir}
+use Rattle.base.specs.Grammar.Derivation.{IsDerivation}
+use Rattle.ir_builder.specs.Token.Rules.Ir.{ir}
 use Rattle.ir_text.specs.Parser.Reads.{kinds_of}
 use Rattle.ir_text.proofs.OnParser.OneTree.{tree_reads}
 use Rattle.ir_text.proofs.parser.reader.tree.Goals as goal

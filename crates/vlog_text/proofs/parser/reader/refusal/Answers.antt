@@ -1,8 +1,8 @@
 use Rattle.std.proofs.Common.{refl, subst, ap, arith, length}
 use Rattle.std.specs.Prelude.{slice_get}
-use Rattle.grammar.specs.Derivation.{IsSentence}
+use Rattle.base.specs.Grammar.Derivation.{IsSentence}
 use Rattle.base.specs.Lists.Fault.{IsFirstFault}
-use Rattle.vlog_token.specs.Rules.Verilog.{verilog}
+use Rattle.vlog_text.specs.Token.Rules.Verilog.{verilog}
 use Rattle.vlog_text.proofs.OnParser.OneTree.{fault_at, kinds_length}
 use Rattle.vlog_text.proofs.parser.reader.refusal.Goals as goal
 

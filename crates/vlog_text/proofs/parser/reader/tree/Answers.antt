@@ -1,6 +1,6 @@
 use Rattle.std.proofs.Common.{◌∙◌, subst}
-use Rattle.grammar.specs.Derivation.{IsDerivation}
-use Rattle.vlog_token.specs.Rules.Verilog.{verilog}
+use Rattle.base.specs.Grammar.Derivation.{IsDerivation}
+use Rattle.vlog_text.specs.Token.Rules.Verilog.{verilog}
 use Rattle.vlog_text.specs.Parser.Reads.{kinds_of}
 use Rattle.vlog_text.proofs.OnParser.OneTree.{tree_reads}
 use Rattle.vlog_text.proofs.parser.reader.tree.Goals as goal

@@ -1,5 +1,5 @@
 use Rattle.std.proofs.Common.{◌∙◌, subst, sym}
-use Rattle.vlog_token.specs.Tokens.{HasTokens, IsBroken}
+use Rattle.vlog_text.specs.Token.Tokens.{HasTokens, IsBroken}
 use Rattle.vlog_text.proofs.OnReader.OneModule.{refused_tokens}
 use Rattle.vlog_text.proofs.reader.read.read_v.Goals as goal
 

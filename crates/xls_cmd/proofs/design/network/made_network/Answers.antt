@@ -1,5 +1,5 @@
 use Rattle.std.proofs.Common.{map}
-use Rattle.dslx_network.specs.DslxBodies.{behavior_of}
+use Rattle.dslx_interp.specs.Network.DslxBodies.{behavior_of}
 use Rattle.xls_cmd.proofs.OnDesign.Steps.{design_runs}
 use Rattle.xls_cmd.proofs.design.network.made_network.Goals as goal
 

@@ -2,8 +2,8 @@ use denote.Param.Send.{sendable}
 use Rattle.std.proofs.Common.{◌∙◌, ap, map, sym, subst}
 use Rattle.std.proofs.lemmas.Result.{IfOk-weaker}
 use Rattle.net_core.specs.WellFormed.{AreBehaviorsOf, IsInputs}
-use Rattle.dslx_network.specs.DslxBodies.{behavior_of}
-use Rattle.dslx_shared.proofs.Lemmas.Shared.{design_field, instance_field}
+use Rattle.dslx_interp.specs.Network.DslxBodies.{behavior_of}
+use Rattle.dslx_interp.proofs.Lemmas.Threads.Shared.{design_field, instance_field}
 use Rattle.xls_cmd.proofs.OnDesign.Steps.{shown_of}
 use Rattle.xls_cmd.proofs.design.run.ran.Goals as goal
 

@@ -1,7 +1,7 @@
 use Rattle.std.proofs.Common.{◌∙◌, ap, map, sym, subst}
 use Rattle.std.proofs.lemmas.Result.{IfOk-weaker}
 use Rattle.net_core.specs.WellFormed.{AreBehaviorsOf, IsInputs}
-use Rattle.dslx_network.specs.DslxBodies.{behavior_of}
+use Rattle.dslx_interp.specs.Network.DslxBodies.{behavior_of}
 use Rattle.xls_cmd.proofs.OnDesign.Steps.{shown_of}
 use Rattle.xls_cmd.proofs.design.run.ran_alone.Goals as goal
 

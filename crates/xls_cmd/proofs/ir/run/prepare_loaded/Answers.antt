@@ -5,7 +5,7 @@ use Rattle.xls_cmd.proofs.Lemmas.Shared.{stops_in_first, stops_in_next, err_hand
 use Rattle.cmd_line.specs.Named.{named_run}
 use Rattle.net_core.specs.WellFormed.{IsNet}
 use Rattle.ir_tree.specs.Networks.{network_of, behaviors_of}
-use Rattle.ir_verify.proofs.Lemmas.Typed.{network_fits}
+use Rattle.ir_tree.proofs.Lemmas.Rules.Typed.{network_fits}
 use Rattle.xls_cmd.specs.Design.Commands.{ReadsInputs}
 use Rattle.xls_cmd.specs.Design.Written.{depths_by, run_text}
 use Rattle.xls_cmd.specs.Ir.Commands.{ReadsPackage, run_texts}

@@ -3,7 +3,7 @@ use Rattle.std.proofs.lemmas.List.{length-map}
 use Rattle.std.proofs.lemmas.Result.{IfOk-weaker}
 use Rattle.net_core.specs.WellFormed.{AreBehaviorsOf, IsNet}
 use Rattle.ir_tree.specs.Networks.{behaviors_of, head_of}
-use Rattle.ir_verify.proofs.Lemmas.Typed.{network_fits, procs_fit}
+use Rattle.ir_tree.proofs.Lemmas.Rules.Typed.{network_fits, procs_fit}
 use Rattle.ir_eval.specs.IrBodies.{behavior_of}
 use Rattle.xls_cmd.specs.Design.Written.{depths_by, run_text}
 use Rattle.xls_cmd.proofs.ir.run.ran_alone.Goals as goal

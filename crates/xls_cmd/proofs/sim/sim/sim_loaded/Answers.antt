@@ -3,8 +3,8 @@ use Rattle.xls_cmd.specs.Shared.Done.{StopsBy}
 use Rattle.xls_cmd.specs.Shared.Step.{Then, goes_on}
 use Rattle.xls_cmd.proofs.Lemmas.Shared.{stops_in_first, stops_in_next, err_handed}
 use Rattle.cmd_line.specs.Named.{named_sim}
-use Rattle.cycle_file.specs.Rows.RowFile.{all_rows}
-use Rattle.cycle_file.specs.Cycles.Simulated.{IsSimulated}
+use Rattle.cycle_sim.specs.Rows.RowFile.{all_rows}
+use Rattle.cycle_sim.specs.Cycles.Simulated.{IsSimulated}
 use Rattle.xls_cmd.specs.Sim.Simulation.{ReadsModule, ReadsRows, Simulates, shows, sim_texts}
 use Rattle.xls_cmd.proofs.sim.sim.sim_loaded.Goals as goal
 

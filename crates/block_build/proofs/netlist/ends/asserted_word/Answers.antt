@@ -1,0 +1,17 @@
+use Rattle.std.proofs.Common.{get_or, arith}
+use Rattle.block_build.specs.Netlist.Literals.{literal_atom}
+use Rattle.block_build.proofs.OnNetlist.OnRequests.{get_same, word_step, word_done}
+use Rattle.block_build.proofs.netlist.ends.asserted_word.Goals as goal
+
+pub sites-preserved : goal.sites-preserved
+sites-preserved c =
+    word_step c.args.wires.now c.sites.wires c.word_more.new.wires c.args.channel c.args.width c.args.proc.sites.now c.args.proc.shaken.now c.sites.i (literal_atom c.args.width 0) c.sites.word c.in_ok-word.word (get_or c.args.proc.sites.now c.sites.i c.index-proc-i.result) (get_or c.args.proc.shaken.now c.sites.i c.index-proc-i-in-sites.result)
+    (omega (arith, c.sites-test.true, c.min-count.ensures)) (omega (arith, c.sites-test.true, c.min-count.ensures)) (get_same c.args.proc.sites.now c.sites.i _ _ (omega (arith, c.sites-test.true, c.min-count.ensures))) (get_same c.args.proc.shaken.now c.sites.i _ _ (omega (arith, c.sites-test.true, c.min-count.ensures))) c.sites.invariant c.in_ok-word.ensures.signal c.in_ok-word.ensures.puts
+
+pub returns-clause-signal : goal.returns-clause-signal
+returns-clause-signal c =
+    (word_done c.args.wires.now c.sites.wires c.args.channel c.args.width c.args.proc.sites.now c.args.proc.shaken.now c.sites.i (literal_atom c.args.width 0) c.sites.word (omega (arith, c.sites-test.false, c.min-count.ensures)) c.sites.invariant).0
+
+pub returns-clause-puts : goal.returns-clause-puts
+returns-clause-puts c =
+    (word_done c.args.wires.now c.sites.wires c.args.channel c.args.width c.args.proc.sites.now c.args.proc.shaken.now c.sites.i (literal_atom c.args.width 0) c.sites.word (omega (arith, c.sites-test.false, c.min-count.ensures)) c.sites.invariant).1

@@ -1,7 +1,0 @@
-use Rattle.std.proofs.Common.{◌≡◌, ◌++◌}
-use Rattle.std.specs.Vec.Iter.{into_iter_items}
-use Rattle.block_netlist.specs.Wires.{assigned}
-use Rattle.block_module.proofs.assembly.assignments.Given as goal
-
-abbrev pub invariant-wires : goal.invariant-wires
-invariant-wires l = (l.made ≡ assigned l.first l.yielded) × (l.fn.wires.items ≡ l.yielded ++ into_iter_items l.wire-iterator)

@@ -1,5 +1,0 @@
-use Rattle.block_module.proofs.OnQueues.{FifosLeft}
-use Rattle.block_module.proofs.queues.lay_fifos.Given as goal
-
-abbrev pub invariant-channels : goal.invariant-channels
-invariant-channels l = FifosLeft l.fn.registers l.registers l.depths l.channels l.i l.fifos.items

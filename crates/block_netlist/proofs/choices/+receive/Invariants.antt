@@ -1,5 +1,0 @@
-use Rattle.std.proofs.Common.{length}
-use Rattle.block_netlist.proofs.choices.+receive.Given as goal
-
-abbrev pub decreases-receive : goal.decreases-receive
-decreases-receive l = length l.widths.now

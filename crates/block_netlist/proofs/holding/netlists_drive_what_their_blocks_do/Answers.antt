@@ -1,5 +1,0 @@
-use Rattle.block_netlist.proofs.OnRuns.{netlists_drive_what_blocks_do}
-use Rattle.block_netlist.proofs.holding.netlists_drive_what_their_blocks_do.Goals as goal
-
-pub returns : goal.returns
-returns c = netlists_drive_what_blocks_do

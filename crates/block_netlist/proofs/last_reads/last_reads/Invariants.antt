@@ -1,5 +1,0 @@
-use Rattle.block_netlist.proofs.OnLastReads.{ReadsLeft}
-use Rattle.block_netlist.proofs.last_reads.last_reads.Given as goal
-
-abbrev pub invariant-nodes : goal.invariant-nodes
-invariant-nodes l = ReadsLeft l.reads l.stages l.fn.proc l.fn.last l.i

@@ -1,4 +1,0 @@
-use Rattle.block_netlist.proofs.last_reads.no_reads.Goals as goal
-
-pub returns : goal.returns
-returns c = c.in_ok-reads.ensures.items_if_clones_equal (λ y e. e)

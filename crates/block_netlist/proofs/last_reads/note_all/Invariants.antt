@@ -1,6 +1,0 @@
-use Rattle.std.proofs.Common.{drop}
-use Rattle.block_netlist.proofs.OnLastReads.{NotedLeft}
-use Rattle.block_netlist.proofs.last_reads.note_all.Given as goal
-
-abbrev pub invariant-operands : goal.invariant-operands
-invariant-operands l = NotedLeft l.fn.reads l.reads l.stage (drop l.i l.operands) l.operands

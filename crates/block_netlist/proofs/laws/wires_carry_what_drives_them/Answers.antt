@@ -1,8 +1,0 @@
-use Rattle.block_netlist.proofs.OnWires.{carried_values_are_driven, driven_values_are_carried}
-use Rattle.block_netlist.proofs.laws.wires_carry_what_drives_them.Goals as goal
-
-pub returns-clause-driven : goal.returns-clause-driven
-returns-clause-driven c = carried_values_are_driven
-
-pub returns-clause-only : goal.returns-clause-only
-returns-clause-only c = driven_values_are_carried

@@ -1,5 +1,0 @@
-use Rattle.std.proofs.Common.{length}
-use Rattle.block_netlist.proofs.layout.+lay_copy.Given as goal
-
-abbrev pub decreases-lay_copy : goal.decreases-lay_copy
-decreases-lay_copy l = length l.widths.now

@@ -1,5 +1,0 @@
-use Rattle.std.proofs.Common.{length}
-use Rattle.block_netlist.proofs.layout.+lay_numbers.Given as goal
-
-abbrev pub decreases-lay_numbers : goal.decreases-lay_numbers
-decreases-lay_numbers l = length l.widths.now

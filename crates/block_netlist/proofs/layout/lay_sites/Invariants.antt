@@ -1,5 +1,0 @@
-use Rattle.block_netlist.proofs.OnLaying.{SitesLaidLeft}
-use Rattle.block_netlist.proofs.layout.lay_sites.Given as goal
-
-abbrev pub invariant-nodes : goal.invariant-nodes
-invariant-nodes l = SitesLaidLeft l.fn.registers l.registers l.channels l.nodes l.i l.sites.items

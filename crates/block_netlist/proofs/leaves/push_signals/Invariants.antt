@@ -1,6 +1,0 @@
-use Rattle.std.proofs.Common.{◌≡◌, ◌++◌}
-use Rattle.block_netlist.specs.Leaves.{nets}
-use Rattle.block_netlist.proofs.leaves.push_signals.Given as goal
-
-abbrev pub invariant-signals : goal.invariant-signals
-invariant-signals l = l.atoms.items ≡ l.initial.atoms.items ++ nets l.first l.i

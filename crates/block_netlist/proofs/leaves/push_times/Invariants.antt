@@ -1,6 +1,0 @@
-use Rattle.std.proofs.Common.{◌≡◌, ◌++◌, ◌-◌}
-use Rattle.block_netlist.specs.Leaves.{repeated}
-use Rattle.block_netlist.proofs.leaves.push_times.Given as goal
-
-abbrev pub invariant-elements : goal.invariant-elements
-invariant-elements l = l.widths.items ++ repeated (l.count - l.counter) l.own ≡ l.initial.widths.items ++ repeated l.count l.own

@@ -1,5 +1,0 @@
-use Rattle.block_netlist.proofs.OnNexts.{SitesLeft}
-use Rattle.block_netlist.proofs.nexts.site_nexts.Given as goal
-
-abbrev pub invariant-sites : goal.invariant-sites
-invariant-sites l = SitesLeft l.fn.wires l.wires l.moves l.sites l.handshakes l.i l.fn.nexts.items l.nexts.items

@@ -1,5 +1,0 @@
-use Rattle.block_netlist.proofs.OnStaging.{ActingLeft}
-use Rattle.block_netlist.proofs.stages.act.Given as goal
-
-abbrev pub invariant-stages : goal.invariant-stages
-invariant-stages l = ActingLeft l.fn.wires l.wires l.fn.run l.fn.full l.fn.stages l.fn.sites l.stage l.rest l.handshakes.items l.passed.items

@@ -1,5 +1,0 @@
-use Rattle.block_netlist.proofs.OnStaging.{KeptLeft}
-use Rattle.block_netlist.proofs.stages.full_nexts.Given as goal
-
-abbrev pub invariant-stages : goal.invariant-stages
-invariant-stages l = KeptLeft l.fn.wires l.wires l.full l.fn.comes l.comes l.moves l.stage l.fn.nexts.items l.nexts.items

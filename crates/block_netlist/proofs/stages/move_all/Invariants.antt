@@ -1,5 +1,0 @@
-use Rattle.block_netlist.proofs.OnStaging.{MovesLeft}
-use Rattle.block_netlist.proofs.stages.move_all.Given as goal
-
-abbrev pub invariant-stages : goal.invariant-stages
-invariant-stages l = MovesLeft l.fn.wires l.wires l.fn.full l.passed l.i l.behind l.moves.items

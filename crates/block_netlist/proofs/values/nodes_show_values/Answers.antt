@@ -1,9 +1,0 @@
-use Rattle.block_netlist.proofs.OnNodeValues.{values_agree}
-use Rattle.block_netlist.proofs.OnNodes.{nodes_are_shown}
-use Rattle.block_netlist.proofs.values.nodes_show_values.Goals as goal
-
-pub returns-clause-shown : goal.returns-clause-shown
-returns-clause-shown c = nodes_are_shown
-
-pub returns-clause-agree : goal.returns-clause-agree
-returns-clause-agree c = values_agree

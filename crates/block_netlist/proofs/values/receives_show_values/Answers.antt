@@ -1,9 +1,0 @@
-use Rattle.block_netlist.proofs.OnChoices.{receive_shows}
-use Rattle.block_netlist.proofs.OnSites.{on_shown}
-use Rattle.block_netlist.proofs.values.receives_show_values.Goals as goal
-
-pub returns-clause-on : goal.returns-clause-on
-returns-clause-on c = on_shown
-
-pub returns-clause-given : goal.returns-clause-given
-returns-clause-given c = receive_shows

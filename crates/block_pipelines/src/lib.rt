@@ -1,6 +1,0 @@
-//! The hardware of IR procs that are scheduled: their registers, the wires of their pipelines, and what their registers hold next.
-#![tactic(auto)]
-
-pub mod laws;
-pub mod layout;
-pub mod pipelines;

@@ -1,6 +1,0 @@
-use Rattle.block_netlist.specs.Added.{AddsWires}
-use Rattle.block_procs.specs.Nodes.{FirstMade}
-use Rattle.block_procs.proofs.procs.node_wires.Given as goal
-
-abbrev pub invariant-nodes : goal.invariant-nodes
-invariant-nodes l = AddsWires l.initial.wires l.wires (λ v. FirstMade v l.channels l.proc l.staging.stage.now l.registers l.views l.made l.i)

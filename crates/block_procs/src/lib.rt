@@ -1,6 +1,0 @@
-//! The hardware of IR procs: the signals of their nodes and sites, and where their registers stand.
-#![tactic(auto)]
-
-pub mod laws;
-pub mod layout;
-pub mod procs;

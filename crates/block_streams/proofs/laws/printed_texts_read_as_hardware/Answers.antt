@@ -1,5 +1,0 @@
-use Rattle.block_streams.proofs.OnTexts.{text_is_of_hardware}
-use Rattle.block_streams.proofs.laws.printed_texts_read_as_hardware.Goals as goal
-
-pub returns : goal.returns
-returns c = text_is_of_hardware c.one_module.ensures

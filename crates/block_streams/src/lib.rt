@@ -1,7 +1,0 @@
-//! What goes through the ports of a package's module, as a simulation of it shows it: prefixes of the words that the package's
-//! network sends.
-//!
-//! There is no code here, but definitions (`specs/`) and the laws.
-#![tactic(auto)]
-
-pub mod laws;

@@ -1,2 +1,0 @@
--- the Verilog text of a package
-pub mod Texts

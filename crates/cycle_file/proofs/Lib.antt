@@ -1,4 +1,0 @@
--- the text of cycles
-pub mod OnCycles
--- row files
-pub mod OnRows

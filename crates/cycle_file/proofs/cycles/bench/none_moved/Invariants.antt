@@ -1,5 +1,0 @@
-use Rattle.std.proofs.Common.{◌≡◌, [], replicate}
-use Rattle.cycle_file.proofs.cycles.bench.none_moved.Given as goal
-
-abbrev pub invariant-channels : goal.invariant-channels
-invariant-channels l = l.moved.items ≡ replicate l._made []

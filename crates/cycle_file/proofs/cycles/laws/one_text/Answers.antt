@@ -1,5 +1,0 @@
-use Rattle.cycle_file.proofs.OnCycles.Written.{one_text}
-use Rattle.cycle_file.proofs.cycles.laws.one_text.Goals as goal
-
-pub returns : goal.returns
-returns c = one_text

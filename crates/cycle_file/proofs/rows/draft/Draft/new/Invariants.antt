@@ -1,5 +1,0 @@
-use Rattle.cycle_file.proofs.OnRows.Drafts.{AreBlank}
-use Rattle.cycle_file.proofs.rows.draft.Draft.new.Given as goal
-
-abbrev pub invariant-shapes : goal.invariant-shapes
-invariant-shapes l = AreBlank l.shapes l.shape-index l.named l.drives

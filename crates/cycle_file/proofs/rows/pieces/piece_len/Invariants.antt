@@ -1,6 +1,0 @@
-use Rattle.std.proofs.Common.{◌≡◌, ◌+◌, ◌≤◌, drop, length}
-use Rattle.cycle_file.specs.Rows.Inner.Shapes.{piece_len}
-use Rattle.cycle_file.proofs.rows.pieces.piece_len.Given as goal
-
-abbrev pub invariant-line : goal.invariant-line
-invariant-line l = record { len : l.at + piece_len l.depth (drop l.at l.line) ≡ piece_len 0 l.line; few : l.depth ≤ l.at }

@@ -1,4 +1,0 @@
--- the text of cycles
-pub mod Cycles
--- row files
-pub mod Rows

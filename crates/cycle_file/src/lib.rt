@@ -1,5 +1,0 @@
-//! Files of a simulation: the rows that it is given, and the cycles that it shows.
-#![tactic(auto)]
-
-pub mod cycles;
-pub mod rows;

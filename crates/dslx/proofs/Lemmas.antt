@@ -1,0 +1,2 @@
+-- the order in which the instances of an accepted text's procs are made
+pub mod Order

@@ -1,0 +1,2 @@
+//! That the fault of a text is found however its instances are found.
+pub mod laws;

@@ -1,4 +1,0 @@
--- parametrics of calls
-mod OnArguments
--- calls by their parametrics
-mod OnCallees

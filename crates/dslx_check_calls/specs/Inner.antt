@@ -1,4 +1,0 @@
--- the parametrics of a call, one by one
-pub mod Parametrics
--- calls from their parametrics
-pub mod Calls

@@ -1,4 +1,0 @@
--- constants
-mod OnConstants
--- names of types
-mod OnTypeNames

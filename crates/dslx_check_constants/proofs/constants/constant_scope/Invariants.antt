@@ -1,6 +1,0 @@
-use Rattle.std.proofs.Common.{◌≡◌}
-use Rattle.dslx_check_constants.proofs.OnConstants.{first_args}
-use Rattle.dslx_check_constants.proofs.constants.constant_scope.Given as goal
-
-abbrev pub invariant-parametrics : goal.invariant-parametrics
-invariant-parametrics l = l.scope ≡ first_args l.s l.i

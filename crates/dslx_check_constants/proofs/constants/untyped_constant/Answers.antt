@@ -1,5 +1,0 @@
-use Rattle.std.proofs.Common.{refl}
-use Rattle.dslx_check_constants.proofs.constants.untyped_constant.Goals as goal
-
-pub returns : goal.returns
-returns c = λ names rows later. record { part = record { row = tt; ty = refl; faults = c.none.ensures; size = refl }; untyped = refl; value = refl }

@@ -1,5 +1,0 @@
-use Rattle.dslx_check_declared.proofs.OnForeign.{declared_one}
-use Rattle.dslx_check_declared.proofs.signatures.declared_type.Goals as goal
-
-pub returns : goal.returns
-returns c = declared_one c.in_ok-typing.ensures c.unless_unit.ensures.is c.unless_unit.ensures.there

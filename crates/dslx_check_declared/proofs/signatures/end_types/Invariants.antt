@@ -1,8 +1,0 @@
-use Rattle.std.proofs.Common.{map, take}
-use Rattle.dslx_check_facts.specs.Walks.{shown}
-use Rattle.dslx_check_leaves.specs.Walked.{TypesEach, WalksTo}
-use Rattle.dslx_check_declared.specs.Inner.Foreign.{end_in, IsDeclaredAs, reached_in}
-use Rattle.dslx_check_declared.proofs.signatures.end_types.Given as goal
-
-abbrev pub invariant-ends : goal.invariant-ends
-invariant-ends l = WalksTo l.f l.fn.s l.s (shown l.fn.w) (shown l.w) (TypesEach IsDeclaredAs reached_in l.types.items (λ env. map (end_in env) (take l.i l.ends)))

@@ -1,6 +1,0 @@
-use Rattle.dslx_check_facts.specs.Walks.{shown}
-use Rattle.dslx_check_fits.proofs.fits.each_word_matches.Given as goal
-use Rattle.dslx_check_fits.proofs.OnFits.EachValue.{WordsSoFar}
-
-abbrev pub invariant-words : goal.invariant-words
-invariant-words l = WordsSoFar l.f (shown l.fn.w) (shown l.w) l.ty l.arms l.word

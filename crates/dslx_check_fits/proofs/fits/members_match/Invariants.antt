@@ -1,6 +1,0 @@
-use Rattle.dslx_check_facts.specs.Walks.{shown}
-use Rattle.dslx_check_fits.proofs.fits.members_match.Given as goal
-use Rattle.dslx_check_fits.proofs.OnFits.Members.{MembersLeft}
-
-abbrev pub invariant-members : goal.invariant-members
-invariant-members l = MembersLeft l.f (shown l.fn.w) (shown l.w) l.ty l.item l.choice l.members l.arms l.member-index

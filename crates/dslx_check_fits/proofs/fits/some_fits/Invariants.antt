@@ -1,7 +1,0 @@
-use Rattle.dslx_check_facts.specs.Walks.{shown}
-use Rattle.dslx_check_fits.proofs.fits.some_fits.Given as goal
-use Rattle.dslx_check_fits.specs.Fits.{AllFine, fits_there}
-use Rattle.dslx_check_fits.proofs.OnFits.Several.{SomeLeft}
-
-abbrev pub invariant-patterns : goal.invariant-patterns
-invariant-patterns l = SomeLeft l.f (shown l.fn.w) (shown l.w) l.ty l.patterns AllFine (λ context p. fits_there context l.value p) l.pattern-index

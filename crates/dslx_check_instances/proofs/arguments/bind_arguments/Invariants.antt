@@ -1,6 +1,0 @@
-use Rattle.std.proofs.Common.{◌≡◌, take}
-use Rattle.dslx_check_instances.specs.Inner.Arguments.{bound_behind}
-use Rattle.dslx_check_instances.proofs.arguments.bind_arguments.Given as goal
-
-abbrev pub invariant-arguments : goal.invariant-arguments
-invariant-arguments l = l.s ≡ record l.fn.s { locals = bound_behind l.fn.s.locals (take l.i l.arguments) (take l.i l.types) }

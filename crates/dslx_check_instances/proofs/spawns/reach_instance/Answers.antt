@@ -1,6 +1,0 @@
-use Rattle.std.proofs.Common.{refl}
-use Rattle.dslx_check_instances.proofs.OnSpawns.{instance_reached}
-use Rattle.dslx_check_instances.proofs.spawns.reach_instance.Goals as goal
-
-pub returns : goal.returns
-returns c = instance_reached _ c.in_ok-instance.instance c.in_ok-instance.ensures.grows c.in_ok-instance.ensures.number refl c.in_ok-reach.ensures

@@ -1,5 +1,0 @@
-use Rattle.dslx_check_least.proofs.OnPlaces.{one_place}
-use Rattle.dslx_check_least.proofs.laws.one_place_is_one_fault.Goals as goal
-
-pub returns : goal.returns
-returns c = one_place

@@ -1,0 +1,4 @@
+-- constants
+pub mod OnConstants
+-- names of types
+pub mod OnTypeNames

@@ -1,0 +1,6 @@
+-- blocks, loops and `match`
+pub mod OnControl
+-- calls and effects
+pub mod OnCalls
+-- patterns
+pub mod OnPatterns

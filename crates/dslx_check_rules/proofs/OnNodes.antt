@@ -1,0 +1,2 @@
+-- names of fields
+pub mod OnFields

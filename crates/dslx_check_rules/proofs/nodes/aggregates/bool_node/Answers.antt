@@ -1,0 +1,14 @@
+use Rattle.std.proofs.Common.{[], Some, false, refl, ap}
+use Rattle.dslx_meaning.specs.Types.{bool_type}
+use Rattle.dslx_check_rules.specs.declared.table.row.TypeRow.TheVariants as row
+use Rattle.dslx_check_rules.proofs.Lemmas.Nodes.Lists.{with_row_kept}
+use Rattle.dslx_check_rules.proofs.nodes.aggregates.bool_node.Goals as goal
+
+pub returns-clause-typed : goal.returns-clause-typed
+returns-clause-typed c = record {
+  typed = λ names later distinct p.
+      c.settle.ensures.typed names later p c.in_ok-ty.ensures.there (Some bool_type) [] [] (Some 1) (ap Some (c.in_ok-ty.ensures.is names later p)) c.none.ensures refl;
+}
+
+pub returns-clause-items : goal.returns-clause-items
+returns-clause-items c = with_row_kept c.args.types.now c.bits.new.self (row.Bits (record { signed = false; width = 1 })) refl c.in_ok-ty.ensures.rows

@@ -1,0 +1,11 @@
+use Rattle.base.proofs.Lemmas.Lists.Prefixes.{IsPrefix-refl}
+use Rattle.dslx_check_rules.proofs.nodes.operators.sliced_type.Goals as goal
+
+pub returns-in_default-clause-grows : goal.returns-in_default-clause-grows
+returns-in_default-clause-grows c = IsPrefix-refl c.args.types.now
+
+pub returns-in_default-2-clause-grows : goal.returns-in_default-2-clause-grows
+returns-in_default-2-clause-grows c = IsPrefix-refl c.args.types.now
+
+pub returns-in_default-3-clause-grows : goal.returns-in_default-3-clause-grows
+returns-in_default-3-clause-grows c = IsPrefix-refl c.args.types.now

@@ -1,5 +1,0 @@
-use Rattle.dslx_check_settled.proofs.OnDeclared.{declarations, groups_see_types}
-use Rattle.dslx_check_settled.proofs.laws.declarations_settle.Goals as goal
-
-pub returns : goal.returns
-returns c = declarations c.looping_items_mean_nothing.ensures.member (groups_see_types c.a_group_sees_types_alone.ensures.of_function c.a_group_sees_types_alone.ensures.of_proc)

@@ -1,4 +1,0 @@
-//! That the global environment of a text is settled: longer chains of items add nothing to it.
-#![tactic(auto)]
-
-pub mod laws;

@@ -1,0 +1,8 @@
+use Rattle.std.proofs.Common.{map, take}
+use Rattle.dslx_check_facts.specs.Walks.{shown}
+use Rattle.dslx_check_leaves.specs.Walked.{TypesEach, WalksTo}
+use Rattle.dslx_check_tasks.specs.Declarations.Inner.Foreign.{argument_in, IsDeclaredAs, reached_in}
+use Rattle.dslx_check_tasks.proofs.declarations.signatures.argument_types.Given as goal
+
+abbrev pub invariant-arguments : goal.invariant-arguments
+invariant-arguments l = WalksTo l.f l.fn.s l.s (shown l.fn.w) (shown l.w) (TypesEach IsDeclaredAs reached_in l.types.items (λ env. map (argument_in env) (take l.i l.arguments)))

@@ -1,5 +1,0 @@
-use Rattle.dslx_check_text.proofs.OnReaching.{reach_alike}
-use Rattle.dslx_check_text.proofs.laws.items_reach_by_names_as_by_numbers.Goals as goal
-
-pub returns : goal.returns
-returns c = λ text plain. reach_alike text plain (c.items_have_names_of_their_own.ensures text plain)

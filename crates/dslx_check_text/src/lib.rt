@@ -1,6 +1,0 @@
-//! That what a text's own global environment says is what is asked of all that is known of the text.
-#![tactic(auto)]
-
-pub mod known;
-pub mod laws;
-pub mod values;

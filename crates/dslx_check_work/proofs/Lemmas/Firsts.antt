@@ -1,2 +1,0 @@
--- Where no two items have one name, the item of a number is the first of its name.
-pub use Rattle.dslx_check_work.proofs.OnFirsts.{first_named, name_is}

@@ -1,5 +1,0 @@
-use Rattle.dslx_check_work.proofs.OnKinds.{by_kind}
-use Rattle.dslx_check_work.proofs.laws.texts_have_items_by_kind.Goals as goal
-
-pub returns : goal.returns
-returns c = by_kind

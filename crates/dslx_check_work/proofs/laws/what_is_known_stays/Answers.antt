@@ -1,8 +1,0 @@
-use Rattle.dslx_check_work.proofs.OnLearnt.{known_stays, nothing_known}
-use Rattle.dslx_check_work.proofs.laws.what_is_known_stays.Goals as goal
-
-pub returns-clause-goes_on : goal.returns-clause-goes_on
-returns-clause-goes_on c = known_stays
-
-pub returns-clause-nothing : goal.returns-clause-nothing
-returns-clause-nothing c = nothing_known

@@ -1,0 +1,9 @@
+pub mod OnOptions
+pub mod OnTypes
+pub mod OnWords
+pub mod OnOpenings
+pub mod OnLists
+pub mod OnShapes
+pub mod OnFlat
+pub mod OnExprs
+pub mod OnPatterns

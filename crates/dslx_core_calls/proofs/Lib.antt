@@ -1,4 +1,0 @@
--- tuples, arrays and structs
-pub mod OnAggregates
--- calls
-pub mod OnCalls

@@ -1,5 +1,0 @@
-use Rattle.dslx_core_types.proofs.OnExprs.{expressions_sound}
-use Rattle.dslx_core_types.proofs.laws.typed_expressions_have_values.Goals as goal
-
-pub returns : goal.returns
-returns c = λ e functions calls types bound t give own h. expressions_sound e functions calls types bound t give own h

@@ -1,6 +1,0 @@
-//! Types of checked expressions: what has one has a value of it.
-#![tactic(auto)]
-
-mod laws;
-
-pub use laws::typed_expressions_have_values;

@@ -1,6 +1,0 @@
--- sizes and counts
-mod OnSizes
--- sizes of instances
-mod OnCounting
--- sizes that are looked up
-mod OnLookups

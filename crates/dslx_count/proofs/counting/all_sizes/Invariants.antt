@@ -1,6 +1,0 @@
-use Rattle.std.proofs.Common.{◌≡◌, [], drop}
-use Rattle.dslx_count.specs.Counting.{sizes_behind}
-use Rattle.dslx_count.proofs.counting.all_sizes.Given as goal
-
-abbrev pub invariant-order : goal.invariant-order
-invariant-order l = sizes_behind l.text l.order l.sizes.items (drop l.instance-index l.order) ≡ sizes_behind l.text l.order [] l.order

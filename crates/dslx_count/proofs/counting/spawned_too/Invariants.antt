@@ -1,6 +1,0 @@
-use Rattle.std.proofs.Common.{◌≡◌, drop}
-use Rattle.dslx_count.specs.Counting.{with_sizes}
-use Rattle.dslx_count.proofs.counting.spawned_too.Given as goal
-
-abbrev pub invariant-spawned : goal.invariant-spawned
-invariant-spawned l = with_sizes l.order l.sizes l.size (drop l.instance-index l.spawned) ≡ with_sizes l.order l.sizes l.fn.own l.spawned

@@ -1,2 +1,0 @@
--- what is looked up in a body
-pub mod OnScopes

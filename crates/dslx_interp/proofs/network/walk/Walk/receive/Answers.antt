@@ -1,0 +1,16 @@
+use Rattle.std.proofs.Common.{◌≡◌, ◌∙◌, None, sym, subst}
+use Rattle.net_core.specs.declared.event.Event.TheVariants.{End}
+use Rattle.dslx_core.specs.CoreValues.{Functions}
+use Rattle.dslx_core.specs.Designs.{condition_at, functions_from, no_function, receive_if, token}
+use Rattle.dslx_interp.specs.Network.Inner.Walking.{event_here}
+use Rattle.dslx_interp.proofs.OnNetwork.OnBody.Stepping.{receive_is_neither}
+use Rattle.dslx_interp.proofs.network.walk.Walk.receive.Goals as goal
+
+pub returns-in-None : goal.returns-in-None
+returns-in-None c =
+    let calls : Functions = functions_from 0 c.args.functions.now no_function in
+    let r = c.args.receive.now in
+    let old = c.args.self.now in
+    let is : None ≡ condition_at calls c.in-Some.on old.bound.items = sym c.in-None.is ∙ c.in_ok-condition.ensures.holds in
+    let neither = receive_is_neither calls r.word c.in-Some.on c.in-Some.otherwise r.shape c.args.got.now c.args.done old old is in
+    λ rest. subst (λ o. event_here (receive_if calls r.word o r.shape rest) c.args.got.now c.args.done old ≡ End token) (sym c.in-Some.is) (neither rest) ∙ sym c.ended.ensures

@@ -1,0 +1,2 @@
+-- what names stand for in a text: what is bound in a scope, its items, and what is called
+pub mod Names

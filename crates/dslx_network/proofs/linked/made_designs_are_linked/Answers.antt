@@ -1,5 +1,0 @@
-use Rattle.dslx_network.proofs.OnLinked.{linked_if_made}
-use Rattle.dslx_network.proofs.linked.made_designs_are_linked.Goals as goal
-
-pub returns : goal.returns
-returns c = linked_if_made

@@ -1,6 +1,0 @@
--- parametric values
-pub mod OnParametricArgs
--- patterns
-pub mod OnPatterns
--- for other crates' proofs
-pub mod Lemmas

@@ -1,4 +1,0 @@
--- parametric values
-pub mod Numbers
--- patterns
-pub mod Patterns

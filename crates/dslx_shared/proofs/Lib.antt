@@ -1,2 +1,0 @@
--- for other crates' proofs
-pub mod Lemmas

@@ -1,6 +1,0 @@
-use denote.Param.Send.{sendable}
-use Rattle.dslx_shared.proofs.Lemmas.Shared.{design_field, instance_field}
-use Rattle.dslx_shared.proofs.bodies_are_shared.Goals as goal
-
-pub shared-requires-sync-T : goal.shared-requires-sync-T
-shared-requires-sync-T c κs = let a = design_field in let b = instance_field in search sendable depth 20

@@ -1,5 +1,0 @@
-//! What an accepted text is lowered to has types: those of the text, without signs and names.
-#![tactic(auto)]
-
-pub mod expressions;
-pub mod instances;

@@ -1,7 +1,0 @@
-use Rattle.std.proofs.Common.{reverse, take}
-use Rattle.grammar.specs.Syntax.{rules_of, syntax_of}
-use Rattle.grammar.specs.Derivation.{ReadsTo, start_of}
-use Rattle.grammar.proofs.parser.parse.Given as goal
-
-abbrev pub invariant-loop-place : goal.invariant-loop-place
-invariant-loop-place l = ReadsTo (rules_of l.grammar) (start_of (syntax_of l.grammar)) l.productions.items (take l.place l.kinds) (reverse l.stack.items)

@@ -1,7 +1,0 @@
-use Rattle.std.proofs.Common.{drop}
-use Rattle.grammar.specs.Syntax.{rules_of}
-use Rattle.grammar.proofs.Trees.{Walk}
-use Rattle.grammar.proofs.tree.node_at.Given as goal
-
-abbrev pub invariant-loop-symbol : goal.invariant-loop-symbol
-invariant-loop-symbol l = Walk (rules_of l.grammar) l.productions l.place (drop l.symbol-index l.symbol-items) l.node

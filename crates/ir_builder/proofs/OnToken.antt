@@ -1,0 +1,3 @@
+pub mod OneCut
+pub mod CutsSoFar
+pub mod PrefixFacts

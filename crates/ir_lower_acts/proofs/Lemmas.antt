@@ -1,3 +1,0 @@
--- For other crates' proofs: the laws of this crate as lemmas, and what is done one after another.
-pub use Rattle.ir_lower_acts.proofs.OnSame.{alike_same}
-pub use Rattle.ir_lower_acts.proofs.OnParts.{alike_as, nodes_append, sites_append, steps_end, steps_append, step_sites_append}

@@ -1,5 +1,0 @@
-use Rattle.ir_lower_acts.proofs.OnSame.{alike_same}
-use Rattle.ir_lower_acts.proofs.laws.alike_activities_are_same_activations.Goals as goal
-
-pub returns : goal.returns
-returns c = λ calls width channels i ir proc state sites widths alike. alike_same calls width channels i ir proc state sites widths alike

@@ -1,0 +1,4 @@
+-- operations on words
+pub mod OnWords
+-- values that are written out
+pub mod OnLiterals

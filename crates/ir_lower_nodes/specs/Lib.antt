@@ -1,0 +1,12 @@
+-- putting nodes for operations of checked expressions on words, and for values that are written out
+pub mod Words
+-- putting nodes for patterns of checked expressions
+pub mod Patterns
+-- putting nodes for checked expressions
+pub mod Exprs
+-- when the nodes of an IR proc do what a checked proc does
+pub mod Acts
+-- putting nodes for the steps of checked procs
+pub mod Steps
+-- putting nodes for the activations of checked procs
+pub mod Procs

@@ -1,7 +1,0 @@
-use Rattle.std.proofs.Common.{◌≡◌, map, true, drop}
-use Rattle.dslx_core_types.specs.Typing.{some_fits, shapes_of}
-use Rattle.ir_lower_exprs.specs.NodeTypes.{arm_node_type}
-use Rattle.ir_lower_types.proofs.fitting.some_fits.Given as goal
-
-abbrev pub invariant-arms : goal.invariant-arms
-invariant-arms l = some_fits (shapes_of (map arm_node_type (drop l.arm-index l.arms))) l.value ≡ true → some_fits (shapes_of (map arm_node_type l.arms)) l.value ≡ true

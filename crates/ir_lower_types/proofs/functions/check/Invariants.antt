@@ -1,6 +1,0 @@
-use Rattle.std.proofs.Common.{ℕ, ◌<◌}
-use Rattle.ir_lower_types.specs.Typed.{IsSigned}
-use Rattle.ir_lower_types.proofs.functions.check.Given as goal
-
-abbrev pub invariant-signatures : goal.invariant-signatures
-invariant-signatures l = (k : ℕ) → k < l.number → IsSigned l.signatures l.functions k

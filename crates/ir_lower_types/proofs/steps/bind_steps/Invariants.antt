@@ -1,8 +1,0 @@
-use Rattle.std.proofs.Common.{◌≡◌, take, Some}
-use Rattle.ir_lower_steps.specs.StepTypes.{steps_node_bind}
-use Rattle.ir_lower_types.specs.Signatures.{call_types}
-use Rattle.ir_lower_types.specs.Words.{word_at}
-use Rattle.ir_lower_types.proofs.steps.bind_steps.Given as goal
-
-abbrev pub invariant-steps : goal.invariant-steps
-invariant-steps l = steps_node_bind (call_types l.signatures) (word_at l.words) (take l.step-index l.steps) l.fn.bound.items ≡ Some l.bound.items

@@ -1,6 +1,0 @@
--- operations on words
-pub mod OnWords
--- values that are written out
-pub mod OnLiterals
--- for other crates' proofs
-pub mod Lemmas

@@ -1,6 +1,0 @@
-use Rattle.std.proofs.Common.{◌≡◌, take, map}
-use Rattle.ir_lower_words.specs.Literals.{written}
-use Rattle.ir_lower_words.proofs.literals.+written.Given as goal
-
-abbrev pub invariant-all_written-values : goal.invariant-all_written-values
-invariant-all_written-values l = l.constants.items ≡ map written (take l.value-index l.values)

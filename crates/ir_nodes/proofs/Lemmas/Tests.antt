@@ -1,2 +1,0 @@
--- Bits that say what holds of values.
-pub use Rattle.ir_nodes.proofs.OnTests.{and_step, always, test_as, passes_length, read_part}

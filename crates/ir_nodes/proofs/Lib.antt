@@ -1,6 +1,0 @@
-pub mod TypesOf
-pub mod Lemmas
-pub mod Putting
-pub mod OnKinds
-pub mod Counting
-pub mod OnTests

@@ -1,5 +1,0 @@
-use Rattle.ir_nodes.proofs.Counting.{CountsSo, trailing}
-use Rattle.ir_nodes.proofs.bits.trailing_zeros.Given as goal
-
-abbrev pub invariant-places : goal.invariant-places
-invariant-places l = CountsSo trailing l.fn.nodes l.nodes l.i l.width l.a l.count

@@ -1,6 +1,0 @@
-use Rattle.std.proofs.lemmas.Result.{IfOk-weaker}
-use Rattle.ir_nodes.proofs.OnKinds.{part_put}
-use Rattle.ir_nodes.proofs.nodes.Nodes.part.Goals as goal
-
-pub returns : goal.returns
-returns c = IfOk-weaker c.put.result _ _ (λ o p. part_put c.args.self.now c.put.new.self c.args.a c.args.start o c.args.width c.bits_type-ty.result c.bits_type-ty.ensures p) c.put.ensures

@@ -1,6 +1,0 @@
-use Rattle.std.proofs.lemmas.Result.{IfOk-weaker}
-use Rattle.ir_nodes.proofs.OnKinds.{update_put}
-use Rattle.ir_nodes.proofs.nodes.Nodes.update.Goals as goal
-
-pub returns : goal.returns
-returns c = IfOk-weaker c.put.result _ _ (λ o p. update_put c.args.self.now c.put.new.self c.args.a c.args.index c.args.element o c.in_ok-ty.ty c.in_ok-ty.ensures p) c.put.ensures

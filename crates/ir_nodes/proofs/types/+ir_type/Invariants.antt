@@ -1,6 +1,0 @@
-use Rattle.std.proofs.Common.{◌≡◌, take, map}
-use Rattle.ir_nodes.specs.Types.{ir_type_of}
-use Rattle.ir_nodes.proofs.types.+ir_type.Given as goal
-
-abbrev pub invariant-parts : goal.invariant-parts
-invariant-parts l = l.types.items ≡ map ir_type_of (take l.part-index l.part-items)

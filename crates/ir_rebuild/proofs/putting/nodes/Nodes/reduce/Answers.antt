@@ -1,0 +1,6 @@
+use Rattle.std.proofs.lemmas.Result.{IfOk-weaker}
+use Rattle.ir_rebuild.proofs.OnPutting.OnKinds.{reduce_put}
+use Rattle.ir_rebuild.proofs.putting.nodes.Nodes.reduce.Goals as goal
+
+pub returns : goal.returns
+returns c = IfOk-weaker c.put.result _ _ (λ o p. reduce_put c.args.self.now c.put.new.self c.args.op c.args.a o c.bits_type-ty.result c.bits_type-ty.ensures p) c.put.ensures

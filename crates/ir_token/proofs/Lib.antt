@@ -1,3 +1,0 @@
-mod OneCut
-mod CutsSoFar
-mod PrefixFacts

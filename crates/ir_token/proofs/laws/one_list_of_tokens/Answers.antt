@@ -1,9 +1,0 @@
-use Rattle.ir_token.proofs.OneCut.{one_list, one_offset, not_both}
-use Rattle.ir_token.proofs.laws.one_list_of_tokens.Goals as goal
-
-pub returns : goal.returns
-returns c = record {
-  one = one_list;
-  place = λ text i j a b. one_offset text text i j a b;
-  either = not_both;
-}

@@ -1,5 +1,0 @@
-use Rattle.std.proofs.lemmas.Str.{IsUtf8-from_ascii}
-use Rattle.ir_token.proofs.token.ascii_text.Goals as goal
-
-pub returns-in-Err : goal.returns-in-Err
-returns-in-Err c = absurd ((c.in-Err.ensures {u = tt}).cases.0 (IsUtf8-from_ascii c.args.bytes.now c.requires))

@@ -1,8 +1,0 @@
--- The grammar of IR texts: the rules of docs/ir.grammar, and the end mark.
-use Rattle.std.specs.Prelude.{map}
-use Rattle.grammar.specs.Syntax.{Syntax}
-use Rattle.ir_token.specs.declared.rules.generated.kind.TheConstants.{END}
-use Rattle.ir_token.specs.Rules.Rules.{named_rules}
-
-unfoldable pub ir : Syntax
-ir = record { rules = map (λ r. r.rule) named_rules; end = END }

@@ -1,5 +1,0 @@
-use Rattle.ir_verify.proofs.OnSame.Same.{itself, either_way, through}
-use Rattle.ir_verify.proofs.same.laws.same_behavior_is_an_equivalence.Goals as goal
-
-pub returns : goal.returns
-returns c = record { itself = itself; either_way = either_way; through = through }

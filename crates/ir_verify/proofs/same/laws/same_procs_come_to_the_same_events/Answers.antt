@@ -1,5 +1,0 @@
-use Rattle.ir_verify.proofs.OnSame.Openings.{opens, events}
-use Rattle.ir_verify.proofs.same.laws.same_procs_come_to_the_same_events.Goals as goal
-
-pub returns : goal.returns
-returns c = record { stands = opens; event = events }

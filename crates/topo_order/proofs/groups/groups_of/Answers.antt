@@ -1,5 +1,0 @@
-use Rattle.topo_order.proofs.Numbering.{all_numbers}
-use Rattle.topo_order.proofs.groups.groups_of.Goals as goal
-
-pub returns : goal.returns
-returns c = all_numbers c.args.needs.now _ _ c.in_ok-groups.ensures.numbers c.in_ok-groups.ensures.done

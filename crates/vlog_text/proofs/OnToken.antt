@@ -1,0 +1,4 @@
+pub mod OneCut
+pub mod CutsSoFar
+pub mod PrefixFacts
+pub mod Powers

@@ -1,4 +1,0 @@
-mod OneCut
-mod CutsSoFar
-mod PrefixFacts
-mod Powers

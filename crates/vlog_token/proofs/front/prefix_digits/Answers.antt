@@ -1,7 +1,0 @@
-use Rattle.vlog_token.proofs.PrefixFacts.{run_digits}
-use Rattle.std.proofs.Common.{subst, sym, take}
-use Rattle.std.specs.Str.Parse.{AllDigits}
-use Rattle.vlog_token.proofs.front.prefix_digits.Goals as goal
-
-pub returns-clause-all : goal.returns-clause-all
-returns-clause-all c = subst (λ n. AllDigits 10 (take n c.args.text.now)) (sym c.digit_run.ensures.len) (run_digits c.args.text.now)

@@ -1,8 +1,0 @@
-use Rattle.std.proofs.Common.{◌≡◌, drop, map}
-use Rattle.dslx_token.specs.Spelling.{kind_among}
-use Rattle.vlog_token.specs.Inner.Entries.{entry_of}
-use Rattle.vlog_token.proofs.kind.kind_among.Given as goal
-
-abbrev pub invariant-loop-spelled : goal.invariant-loop-spelled
-invariant-loop-spelled l =
-    kind_among (map entry_of (drop l.spelled-index l.spellings)) l.bytes l.other ≡ kind_among (map entry_of l.spellings) l.bytes l.other

@@ -1,6 +1,0 @@
-use Rattle.std.proofs.Common.{◌^◌}
-use Rattle.vlog_token.proofs.Powers.{AreDivided}
-use Rattle.vlog_token.proofs.power.divided.Given as goal
-
-abbrev pub invariant-digits : goal.invariant-digits
-invariant-digits l = AreDivided l.digits (2 ^ l.power) l.digit-index l.quotient.items l.rest

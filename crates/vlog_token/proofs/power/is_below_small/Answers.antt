@@ -1,5 +1,0 @@
-use Rattle.vlog_token.proofs.Powers.{not_below}
-use Rattle.vlog_token.proofs.power.is_below_small.Goals as goal
-
-pub returns-in-None : goal.returns-in-None
-returns-in-None c = not_below _ c.args.power c.in-None.ensures c.requires

@@ -1,7 +1,0 @@
-use Rattle.std.proofs.Common.{refl}
-use Rattle.grammar.specs.Ll1.{is_ll1}
-use Rattle.vlog_token.proofs.rules.reader.grammar.Goals as goal
-
-pub returns-clause-valid : goal.returns-clause-valid
-unfolding is_ll1
-returns-clause-valid c = refl
