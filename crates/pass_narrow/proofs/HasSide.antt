@@ -362,7 +362,7 @@ left_side_there state nodes n r built fits_at h = by n.attributes refl h
     by (attributes.Value c) a k = none_some _ r k
     by (attributes.Channel predicate c) a k = none_some _ r k
 
--- a node without a pattern has no right side
+-- a node without a pattern has no replacement
 pub no_right_side : (state : IrType) (nodes : List Node) (n : Node) → AreBuilt state nodes → FitsAt state nodes (length nodes) n → has_pattern state nodes n ≡ false → replacement_of state nodes n ≡ None
 no_right_side state nodes n built fits_at h = by (replacement_of state nodes n) refl
   where

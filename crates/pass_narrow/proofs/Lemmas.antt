@@ -84,6 +84,6 @@ extended_rewrites (Ok p) state old mid new newer n m longer w o x h e f g l i j 
     extension_follows state old mid new newer n m w o p k first second
 extended_rewrites (Err y) state old mid new newer n m longer w o x h e f g l i j = tt
 
--- a node without a pattern has no right side
+-- a node without a pattern has no replacement
 pub no_right_side : (state : IrType) (nodes : List Node) (n : Node) → AreBuilt state nodes → FitsAt state nodes (length nodes) n → has_pattern state nodes n ≡ false → replacement_of state nodes n ≡ None
 no_right_side = sides.no_right_side

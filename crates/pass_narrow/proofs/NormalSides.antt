@@ -137,7 +137,7 @@ least_row binary.Sub p q w m h = refl
 least_row binary.Udiv p q w m h = refl
 least_row binary.Umod p q w m h = refl
 
--- ---- each right side
+-- ---- each replacement
 
 operation_side : (state : IrType) (nodes : List Node) (o : Binary) (w : ℕ) (os : List Operand) (r : NodeReplacement) (total : ℕ) → AreBuilt state nodes → AreNormal state nodes → sides.operation_of state nodes o w os ≡ Some r → IsNormalSide state nodes total r
 operation_side state nodes o w [] r total built normal h = none_some _ r h

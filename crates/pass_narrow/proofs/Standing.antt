@@ -165,7 +165,7 @@ is_before state nodes part r q built e f = subst (λ p. IfSome p (λ (inner : Lo
 pub is_within : (state : IrType) (nodes : List Node) (part : LongSlice) (r : NodeReplacement) (q : Option LongSlice) → AreBuilt state nodes → Some r ≡ slice_of state nodes part.start part.width part.operand → q ≡ inner_part r part → IfSome q (λ inner. (n : Node) → IsSliceOf state nodes n part → IsSliceOf state nodes n inner)
 is_within state nodes part r q built e f = subst (λ p. IfSome p (λ inner. (n : Node) → IsSliceOf state nodes n part → IsSliceOf state nodes n inner)) (sym f) (inner_within state nodes part r (slice_says state nodes part r built (sym e)).1)
 
--- ---- any right side
+-- ---- any replacement
 
 pub same_list : (state : IrType) (nodes : List Node) (n : Node) (x : RewrittenNode) → AreBuilt state nodes → IsRewrittenNode state nodes n x → Narrows state nodes nodes n x
 same_list state nodes n x built h = record { built = built; extends = extends_none nodes; stands = h }

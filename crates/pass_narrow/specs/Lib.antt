@@ -4,7 +4,7 @@ pub mod Numbers
 pub mod Nodes
 -- what the nodes that operands name show
 pub mod Views
--- the right side for each left side
+-- the replacement for each pattern
 pub mod Replacements
 -- the slice that a slice comes to
 pub mod Slices

@@ -19,7 +19,7 @@ IsPut nodes (rewritten_node.Node m) new o = (new ≡ and_node nodes m) × (o ≡
 IsPut nodes (rewritten_node.Extended m w) new o =
     (new ≡ and_node (and_node nodes m) (extension_node extend.Zero (operand.Node (length nodes)) w)) × (o ≡ operand.Node (length (and_node nodes m)))
 
--- what stands for the node, the right side of its pattern or the node itself, was put behind what it needs. Behind normal nodes it
+-- what stands for the node, the replacement of its pattern or the node itself, was put behind what it needs. Behind normal nodes it
 -- has no pattern.
 pub record IsNarrowed (state : IrType) (old new : List Node) (n : Node) (o : Operand) : Type 0 where
   pub put : IsPut (narrowing_of state old n).nodes (narrowing_of state old n).answer new o

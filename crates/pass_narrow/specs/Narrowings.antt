@@ -1,4 +1,4 @@
--- What stands for a node: the right side of its pattern with what that needs, or, with none, the node itself. The old nodes and the
+-- What stands for a node: the replacement of its pattern with what that needs, or, with none, the node itself. The old nodes and the
 -- node determine it.
 use Rattle.std.specs.Prelude.{◌≡◌, ℕ, nat_eq, if◌then◌else◌, List, [], ◌∷◌, ◌++◌, length, Option, Some, None}
 use Rattle.delay_model.specs.declared.op.Extend.TheVariants as extend

@@ -1,4 +1,4 @@
-//! Which left side a node has, and what stands on the right.
+//! Which pattern a node has, and its replacement.
 
 ghost use Rattle.std.specs.Prelude.{◌≡◌, ◌+◌, max};
 ghost use Rattle.ir_tree.specs.NodeTypes.Types.{bits_width};
@@ -27,7 +27,7 @@ pub enum NodeReplacement {
     Comparison(Compare, Operand, Operand, u128),
 }
 
-/// The right side for a node that has a pattern.
+/// The replacement for a node that has a pattern.
 pub fn replacement_for(state: &IrType, nodes: &[Node], node: &Node) -> Option<NodeReplacement>
     ensures { result ≡ replacement_of state.now nodes.now node.now }
 {

@@ -67,7 +67,7 @@ pub fn narrowed(
     }
 }
 
-/// What the right side makes for a node of `total` bits.
+/// What the replacement makes for a node of `total` bits.
 fn made(
     alloc: Global,
     state: &IrType,

@@ -62,27 +62,27 @@ module _ {T N : Type 0} (number : T → ℕ) (run : T → N) (fact : T → Type 
       nothing (suc j) u other e = some-ne-none u (sym e)
 
   -- tasks of a run, whatever the deque held before
-  lies_tasks : (b : Bool) (home : Option N) (items : List (Item N T)) → b ≡ false → LiesThere number run fact b home items → AreTasksThere number run fact home items
-  lies_tasks true home items e l = absurd (true≢false e)
-  lies_tasks false home items e l = l
+  lies_tasks : (b : Bool) (runtime : Option N) (items : List (Item N T)) → b ≡ false → LiesThere number run fact b runtime items → AreTasksThere number run fact runtime items
+  lies_tasks true runtime items e l = absurd (true≢false e)
+  lies_tasks false runtime items e l = l
 
-  tasks_lie : (b : Bool) (home : Option N) (items : List (Item N T)) → b ≡ false → AreTasksThere number run fact home items → LiesThere number run fact b home items
-  tasks_lie true home items e l = absurd (true≢false e)
-  tasks_lie false home items e l = l
+  tasks_lie : (b : Bool) (runtime : Option N) (items : List (Item N T)) → b ≡ false → AreTasksThere number run fact runtime items → LiesThere number run fact b runtime items
+  tasks_lie true runtime items e l = absurd (true≢false e)
+  tasks_lie false runtime items e l = l
 
-  lies_open : (b : Bool) (home : Option N) (items : List (Item N T)) → b ≡ true → LiesThere number run fact b home items → (r : N) × (items ≡ item.Run r ∷ [])
-  lies_open true home items e l = l
-  lies_open false home items e l = absurd (true≢false (sym e))
+  lies_open : (b : Bool) (runtime : Option N) (items : List (Item N T)) → b ≡ true → LiesThere number run fact b runtime items → (r : N) × (items ≡ item.Run r ∷ [])
+  lies_open true runtime items e l = l
+  lies_open false runtime items e l = absurd (true≢false (sym e))
 
-  more_tasks : (home : Option N) (items : List (Item N T)) (x : T) → AreTasksThere number run fact home items → home ≡ Some (run x) → fact x → AreTasksThere number run fact home (items ++ item.Task x ∷ [])
-  more_tasks home [] x each e f = ((e, f), tt)
-  more_tasks home (y ∷ ys) x each e f = (each.0, more_tasks home ys x each.1 e f)
+  more_tasks : (runtime : Option N) (items : List (Item N T)) (x : T) → AreTasksThere number run fact runtime items → runtime ≡ Some (run x) → fact x → AreTasksThere number run fact runtime (items ++ item.Task x ∷ [])
+  more_tasks runtime [] x each e f = ((e, f), tt)
+  more_tasks runtime (y ∷ ys) x each e f = (each.0, more_tasks runtime ys x each.1 e f)
 
   -- where they add up to nothing there are none
-  no_tasks : (home : Option N) (items : List (Item N T)) → AreTasksThere number run fact home items → sum_by (weigh number (λ _. 1)) items ≡ 0 → items ≡ []
-  no_tasks home [] each e = refl
-  no_tasks home (item.Run r ∷ xs) each e = absurd each.0
-  no_tasks home (item.Task x ∷ xs) each e = absurd (omega (arith, e, sum_by-cons (weigh number (λ _. 1)) (item.Task x) xs))
+  no_tasks : (runtime : Option N) (items : List (Item N T)) → AreTasksThere number run fact runtime items → sum_by (weigh number (λ _. 1)) items ≡ 0 → items ≡ []
+  no_tasks runtime [] each e = refl
+  no_tasks runtime (item.Run r ∷ xs) each e = absurd each.0
+  no_tasks runtime (item.Task x ∷ xs) each e = absurd (omega (arith, e, sum_by-cons (weigh number (λ _. 1)) (item.Task x) xs))
 
   -- of which run the deque is is put into it
   pub opens : (port : ℕ) (v : Tally N) (r : N) → v.parts ≡ 1024 → v.opens ≡ false → v.put ≡ [] → v.taken ≡ []
@@ -159,7 +159,7 @@ module _ {T N : Type 0} (number : T → ℕ) (run : T → N) (fact : T → Type 
   -- a task is put
   pub puts : (port : ℕ) (v : Tally N) (x : T) → 0 < v.parts → v.opens ≡ false → v.run ≡ Some (run x) → fact x
       → Pushes Rule port v (item.Task x ∷ []) (PutsBy number v (item.Task x ∷ []))
-  puts port v x part shut home holds items views h at =
+  puts port v x part shut runtime holds items views h at =
       let mine = h.knows port v at part in
       let w : Tally N = record v { put = v.put ++ number x ∷ [] } in
       let each : (j : ℕ) (u : Tally N) → get_elem? (set views port w) j ≡ some u → Fits h.at u =
@@ -171,7 +171,7 @@ module _ {T N : Type 0} (number : T → ℕ) (run : T → N) (fact : T → Type 
           once = λ f.
               omega (arith, sum_set (λ (u : Tally N). sum_by f u.put) views port v w at, sum_set (λ (u : Tally N). sum_by f u.taken) views port v w at, h.once f, sum_append f v.put (number x ∷ []), sum_one f (number x), sum_append (weigh number f) items (item.Task x ∷ []), sum_one (weigh {N = N} number f) (item.Task x));
           lies = tasks_lie h.at.opens h.at.run (items ++ item.Task x ∷ []) (sym mine.opens ∙ shut)
-              (more_tasks h.at.run items x (lies_tasks h.at.opens h.at.run items (sym mine.opens ∙ shut) h.lies) (sym mine.run ∙ home) holds);
+              (more_tasks h.at.run items x (lies_tasks h.at.opens h.at.run items (sym mine.opens ∙ shut) h.lies) (sym mine.run ∙ runtime) holds);
           knows = λ j u e. (each j u e).0;
           idle = λ j u e. (each j u e).1;
         },

@@ -151,7 +151,7 @@ module _ {N T : Type 0} (number : T → ℕ) (run : T → N) (fact : T → Type 
 
   pub stolen_taken : (r : Option T) → IsTold r
       → MatchOption r (((h : ℕ → ℕ) → taken_by h then_pass ≡ taken_by h old) × FoundEmpty old)
-      (λ task. ((h : ℕ → ℕ) → taken_by h then_pass ≡ taken_by h old + h (number task)) × ((home : Option N) → KnowsRun home old → home ≡ Some (run task)) × fact task)
+      (λ task. ((h : ℕ → ℕ) → taken_by h then_pass ≡ taken_by h old + h (number task)) × ((runtime : Option N) → KnowsRun runtime old → runtime ≡ Some (run task)) × fact task)
   stolen_taken None told = (
     (λ h.
         let same = ap (sum_by (right_taken h)) told.0 in
@@ -165,7 +165,7 @@ module _ {N T : Type 0} (number : T → ℕ) (run : T → N) (fact : T → Type 
     (λ h.
         let more = stolen_sum queue.windows.items number run fact (seat_knows mid.first) (rights_know rights.items) task told h in
         omega (arith, none.0 h, sum_by-cons (seat_taken h) mid.first mid.more.items, sum_by-cons (seat_taken h) (record mid.first { rights = rights }) mid.more.items, more)),
-    (λ home know. sym ((keep.run home know).0.rights told.at told.knew told.there) ∙ told.run_is),
+    (λ runtime know. sym ((keep.run runtime know).0.rights told.at told.knew told.there) ∙ told.run_is),
     told.holds,
   )
 

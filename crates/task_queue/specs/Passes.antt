@@ -103,4 +103,4 @@ module _ {N T : Type 0} where
 
   -- each is a task of this run, of which its fact holds
   abbrev pub AreTasks : (T → N) → (T → Type 0) → Option N → List T → Type 0
-  AreTasks run fact home tasks = (k : ℕ) (task : T) → slice_get tasks k ≡ Some task → (home ≡ Some (run task)) × fact task
+  AreTasks run fact runtime tasks = (k : ℕ) (task : T) → slice_get tasks k ≡ Some task → (runtime ≡ Some (run task)) × fact task

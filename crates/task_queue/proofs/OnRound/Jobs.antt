@@ -35,9 +35,9 @@ module _ {N T : Type 0} where
   room_less d n m xs less all = each_weaker (HasRoomAt n) (HasRoomIf d m) xs (λ x has e. (let h = has in omega (arith, h, less))) all
 
   -- behind the puts of all tasks, each deque has room for the turns
-  pub room_left : (number : T → ℕ) (queue : TaskQueue N T) (home : Option N) (workers : ℕ) (tasks : List T) (pass put : TaskPass N T) → IsNewPass queue home workers (length tasks + 1024) pass → HasPut number queue tasks pass put
+  pub room_left : (number : T → ℕ) (queue : TaskQueue N T) (runtime : Option N) (workers : ℕ) (tasks : List T) (pass put : TaskPass N T) → IsNewPass queue runtime workers (length tasks + 1024) pass → HasPut number queue tasks pass put
       → (d : ℕ) → HasRoomOn d 1024 put
-  room_left number queue home workers tasks pass put new has d = go (cases_eq d pass.first.number)
+  room_left number queue runtime workers tasks pass put new has d = go (cases_eq d pass.first.number)
     where
       go : (d ≡ pass.first.number) ⊎ (d ≡ pass.first.number → ⊥) → HasRoomOn d 1024 put
       go (inl e) = subst (λ i. HasRoomOn i 1024 put) (has.same.number ∙ sym e) (room_on queue put 1024 has.is (has.room 1024 new.rooms.0))
@@ -90,8 +90,8 @@ module _ {N T : Type 0} (queue : TaskQueue N T) (workers : ℕ) where
       room = λ d. (room d 1024 (was.room d)).0;
     }
 
-    pub job_is : (home : Option N) → KnowsRun home job → (number : ℕ) × (number + count + 1 ≡ workers) × IsJob queue home 1024 number job
-    job_is home knows = (
+    pub job_is : (runtime : Option N) → KnowsRun runtime job → (number : ℕ) × (number + count + 1 ≡ workers) × IsJob queue runtime 1024 number job
+    job_is runtime knows = (
       before,
       (let more : 1 ≤ length (owned pass) = omega arith in omega (arith, was.left_is, more, ap length was.owned_are, below_length was.left)),
       record {
@@ -104,14 +104,14 @@ module _ {N T : Type 0} (queue : TaskQueue N T) (workers : ℕ) where
     )
 
   -- and what was split off
-  module _ (home : Option N) (old : TaskPass N T) where
+  module _ (runtime : Option N) (old : TaskPass N T) where
     pub record Splits (pass : TaskPass N T) (jobs : List (TaskPass N T)) : Type 0 where
-      pub knows : KnowsRun home pass
-      pub each : (k : ℕ) (job : TaskPass N T) → slice_get jobs k ≡ Some job → (number : ℕ) × (number + k + 1 ≡ workers) × IsJob queue home 1024 number job
+      pub knows : KnowsRun runtime pass
+      pub each : (k : ℕ) (job : TaskPass N T) → slice_get jobs k ≡ Some job → (number : ℕ) × (number + k + 1 ≡ workers) × IsJob queue runtime 1024 number job
       pub put : (h : ℕ → ℕ) → sum_by (put_by h) jobs + put_by h pass ≡ put_by h old
       pub taken : (h : ℕ → ℕ) → sum_by (taken_by h) jobs + taken_by h pass ≡ taken_by h old
 
-    pub splits_none : (jobs : List (TaskPass N T)) → jobs ≡ [] → KnowsRun home old → Splits old jobs
+    pub splits_none : (jobs : List (TaskPass N T)) → jobs ≡ [] → KnowsRun runtime old → Splits old jobs
     splits_none jobs empty knows = record {
       knows = knows;
       each = λ k job e. absurd (nothing k job (ap (λ js. slice_get js k) (sym empty) ∙ e));
@@ -123,14 +123,14 @@ module _ {N T : Type 0} (queue : TaskQueue N T) (workers : ℕ) where
         nothing k job e = cc
 
     module _ (pass : TaskPass N T) (jobs more : List (TaskPass N T)) (job : TaskPass N T) (was : Splits pass jobs) (more_is : more ≡ jobs ++ job ∷ []) where
-      each_more : ((number : ℕ) × (number + length jobs + 1 ≡ workers) × IsJob queue home 1024 number job) → (k : ℕ) (x : TaskPass N T) → slice_get more k ≡ Some x → (number : ℕ) × (number + k + 1 ≡ workers) × IsJob queue home 1024 number x
+      each_more : ((number : ℕ) × (number + length jobs + 1 ≡ workers) × IsJob queue runtime 1024 number job) → (k : ℕ) (x : TaskPass N T) → slice_get more k ≡ Some x → (number : ℕ) × (number + k + 1 ≡ workers) × IsJob queue runtime 1024 number x
       each_more last k x e = go (snoc_cases jobs job k x (ap (λ js. slice_get js k) (sym more_is) ∙ e))
         where
-          go : ((k < length jobs) × (slice_get jobs k ≡ Some x)) ⊎ ((k ≡ length jobs) × (job ≡ x)) → (number : ℕ) × (number + k + 1 ≡ workers) × IsJob queue home 1024 number x
+          go : ((k < length jobs) × (slice_get jobs k ≡ Some x)) ⊎ ((k ≡ length jobs) × (job ≡ x)) → (number : ℕ) × (number + k + 1 ≡ workers) × IsJob queue runtime 1024 number x
           go (inl p) = was.each k x p.1
-          go (inr p) = (last.0, omega (arith, last.1, p.0), subst (IsJob queue home 1024 last.0) p.1 last.2)
+          go (inr p) = (last.0, omega (arith, last.1, p.0), subst (IsJob queue runtime 1024 last.0) p.1 last.2)
 
-      pub splits_more : (new : TaskPass N T) → ((number : ℕ) × (number + length jobs + 1 ≡ workers) × IsJob queue home 1024 number job) → KnowsRun home new
+      pub splits_more : (new : TaskPass N T) → ((number : ℕ) × (number + length jobs + 1 ≡ workers) × IsJob queue runtime 1024 number job) → KnowsRun runtime new
           → ((h : ℕ → ℕ) → (put_by h new + put_by h job ≡ put_by h pass) × (taken_by h new + taken_by h job ≡ taken_by h pass)) → Splits new more
       splits_more new last knows sums = record {
         knows = knows;
@@ -140,13 +140,13 @@ module _ {N T : Type 0} (queue : TaskQueue N T) (workers : ℕ) where
       }
 
       -- the last one, with what is left
-      pub splits_all : pass ≡ job → IsLeft pass (length jobs) → workers ≤ length jobs + 1 → AreJobs queue home 1024 workers old more
+      pub splits_all : pass ≡ job → IsLeft pass (length jobs) → workers ≤ length jobs + 1 → AreJobs queue runtime 1024 workers old more
       splits_all same left most = record {
         count = omega (arith, ap length more_is, length-append jobs (job ∷ []), some_left pass (length jobs) left, most);
         each = each_more (
           0,
           omega (arith, some_left pass (length jobs) left, most),
-          subst (IsJob queue home 1024 0) same (record {
+          subst (IsJob queue runtime 1024 0) same (record {
             is = left.is;
             dealt = left.dealt;
             knows = was.knows;
@@ -167,35 +167,35 @@ module _ {N T : Type 0} (queue : TaskQueue N T) (workers : ℕ) where
           last k x here (inr p) = subst (λ (y : TaskPass N T). workers ≤ places y) (same ∙ p.1) left.places_are
 
 -- what comes back
-module _ {N T : Type 0} (number : T → ℕ) (run : T → N) (fact waits : T → Type 0) (queue : TaskQueue N T) (home : Option N) (workers : ℕ) (jobs : List (TaskPass N T)) (shares : List (Result (Share N T) AllocError)) where
+module _ {N T : Type 0} (number : T → ℕ) (run : T → N) (fact waits : T → Type 0) (queue : TaskQueue N T) (runtime : Option N) (workers : ℕ) (jobs : List (TaskPass N T)) (shares : List (Result (Share N T) AllocError)) where
   -- the workers from number done on haven't been gathered yet
   pub record Gathers (left : List (Result (Share N T) AllocError)) (share : Share N T) : Type 0 where
     pub done : ℕ
     pub count : done + length left ≡ workers
     pub rest : (k : ℕ) (s : Result (Share N T) AllocError) → slice_get left k ≡ Some s → slice_get shares k ≡ Some s
     pub places_are : workers ≤ places share.pass
-    pub got : IsGathered number run fact waits queue home (numbers_below done) (drop (length left) jobs) share
+    pub got : IsGathered number run fact waits queue runtime (numbers_below done) (drop (length left) jobs) share
 
-module _ {N T : Type 0} (number : T → ℕ) (run : T → N) (fact waits : T → Type 0) (queue : TaskQueue N T) (home : Option N) (workers : ℕ) (jobs : List (TaskPass N T)) (shares : List (Result (Share N T) AllocError))
-    (can : CanGather number run fact waits queue home workers jobs shares) where
+module _ {N T : Type 0} (number : T → ℕ) (run : T → N) (fact waits : T → Type 0) (queue : TaskQueue N T) (runtime : Option N) (workers : ℕ) (jobs : List (TaskPass N T)) (shares : List (Result (Share N T) AllocError))
+    (can : CanGather number run fact waits queue runtime workers jobs shares) where
   -- one share, behind its worker's job
   module _ (k : ℕ) (share : Share N T) (there : slice_get shares k ≡ Some (Ok share)) where
     abbrev pub share_number : ℕ
     share_number = (can.each k share there).1
 
-    pub share_tasks : AreTasks run fact home share.parked.items
+    pub share_tasks : AreTasks run fact runtime share.parked.items
     share_tasks =
         let from = can.each k share there in
-        let knows = from.5.same.run home from.4.knows in
+        let knows = from.5.same.run runtime from.4.knows in
         λ i task e. let at = from.5.is.each i task e in (sym knows.0.lane ∙ (from.5.is.knows.0.lane ∙ at.0), at.1)
 
-    pub share_one : IsGathered number run fact waits queue home (share_number ∷ []) ((can.each k share there).0 ∷ []) share
+    pub share_one : IsGathered number run fact waits queue runtime (share_number ∷ []) ((can.each k share there).0 ∷ []) share
     share_one =
         let from = can.each k share there in
         record {
           is = from.5.is.pass_is;
           dealt = from.5.same.dealt from.4.dealt;
-          knows = from.5.same.run home from.4.knows;
+          knows = from.5.same.run runtime from.4.knows;
           owned_are = from.5.same.owned_are ∙ from.4.owned_are;
           tasks_are = share_tasks;
           waits_if = from.5.still;
@@ -208,7 +208,7 @@ module _ {N T : Type 0} (number : T → ℕ) (run : T → N) (fact waits : T →
     pub job_there : drop k jobs ≡ (can.each k share there).0 ∷ drop (k + 1) jobs
     job_there = drop_there jobs k (can.each k share there).0 (can.each k share there).3
 
-  pub gathers_first : (rest : List (Result (Share N T) AllocError)) (share : Share N T) → shares ≡ rest ++ Ok share ∷ [] → Gathers number run fact waits queue home workers jobs shares rest share
+  pub gathers_first : (rest : List (Result (Share N T) AllocError)) (share : Share N T) → shares ≡ rest ++ Ok share ∷ [] → Gathers number run fact waits queue runtime workers jobs shares rest share
   gathers_first rest share split = record {
     done = 1;
     count = omega (arith, longer, can.count);
@@ -220,7 +220,7 @@ module _ {N T : Type 0} (number : T → ℕ) (run : T → N) (fact waits : T →
         let one = share_one (length rest) share there in
         let zero_is : share_number (length rest) share there ≡ 0 = omega (arith, number_is (length rest) share there, longer, can.count) in
         let none : drop (length rest + 1) jobs ≡ [] = drop_all (length rest + 1) jobs (omega (arith, longer, can.count, can.jobs_count)) in
-        subst (λ (x : List ℕ × List (TaskPass N T)). IsGathered number run fact waits queue home x.0 x.1 share)
+        subst (λ (x : List ℕ × List (TaskPass N T)). IsGathered number run fact waits queue runtime x.0 x.1 share)
         (λ i. (zero_is i ∷ [], sym (job_there (length rest) share there ∙ ap (λ js. (can.each (length rest) share there).0 ∷ js) none) i)) one;
   }
     where
@@ -230,7 +230,7 @@ module _ {N T : Type 0} (number : T → ℕ) (run : T → N) (fact waits : T →
       there : slice_get shares (length rest) ≡ Some (Ok share)
       there = ap (λ ss. slice_get ss (length rest)) split ∙ last_there rest (Ok share)
 
-  module _ (left rest : List (Result (Share N T) AllocError)) (share one : Share N T) (is : Gathers number run fact waits queue home workers jobs shares left share) (split : left ≡ rest ++ Ok one ∷ []) where
+  module _ (left rest : List (Result (Share N T) AllocError)) (share one : Share N T) (is : Gathers number run fact waits queue runtime workers jobs shares left share) (split : left ≡ rest ++ Ok one ∷ []) where
     longer : length left ≡ length rest + 1
     longer = ap length split ∙ length-append rest (Ok one ∷ [])
 
@@ -251,7 +251,7 @@ module _ {N T : Type 0} (number : T → ℕ) (run : T → N) (fact waits : T →
       omega (arith, ap length is.got.owned_are, ap length one_owned_are, below_length is.done, is.count, longer, is.places_are),
     )
 
-    pub gathers_more : (new : Share N T) → TakesIn queue share one new → Gathers number run fact waits queue home workers jobs shares rest new
+    pub gathers_more : (new : Share N T) → TakesIn queue share one new → Gathers number run fact waits queue runtime workers jobs shares rest new
     gathers_more new took = record {
       done = suc is.done;
       count = omega (arith, is.count, longer);
@@ -260,7 +260,7 @@ module _ {N T : Type 0} (number : T → ℕ) (run : T → N) (fact waits : T →
       got = record {
         is = took.is;
         dealt = took.dealt;
-        knows = took.run home is.got.knows mine.knows;
+        knows = took.run runtime is.got.knows mine.knows;
         owned_are = took.owned_are ∙ (λ i. is.got.owned_are i ++ one_owned_are i);
         tasks_are = λ i task e. tasks i task (in_both share.parked.items one.parked.items i task (ap (λ ts. slice_get ts i) (sym took.parked_are) ∙ e));
         waits_if = λ still i task e. waiting (or_false share.moved one.moved (sym took.moved_is ∙ still)) i task (in_both share.parked.items one.parked.items i task (ap (λ ts. slice_get ts i) (sym took.parked_are) ∙ e));
@@ -290,10 +290,10 @@ module _ {N T : Type 0} (number : T → ℕ) (run : T → N) (fact waits : T →
       };
     }
       where
-        mine : IsGathered number run fact waits queue home (share_number (length rest) one there ∷ []) ((can.each (length rest) one there).0 ∷ []) one
+        mine : IsGathered number run fact waits queue runtime (share_number (length rest) one there ∷ []) ((can.each (length rest) one there).0 ∷ []) one
         mine = share_one (length rest) one there
 
-        tasks : (i : ℕ) (task : T) → (slice_get share.parked.items i ≡ Some task) ⊎ ((j : ℕ) × (slice_get one.parked.items j ≡ Some task)) → (home ≡ Some (run task)) × fact task
+        tasks : (i : ℕ) (task : T) → (slice_get share.parked.items i ≡ Some task) ⊎ ((j : ℕ) × (slice_get one.parked.items j ≡ Some task)) → (runtime ≡ Some (run task)) × fact task
         tasks i task (inl e) = is.got.tasks_are i task e
         tasks i task (inr p) = mine.tasks_are p.0 task p.1
 
@@ -301,14 +301,14 @@ module _ {N T : Type 0} (number : T → ℕ) (run : T → N) (fact waits : T →
         waiting still i task (inl e) = is.got.waits_if still.0 i task e
         waiting still i task (inr p) = mine.waits_if still.1 p.0 task p.1
 
-  pub gathers_all : (left : List (Result (Share N T) AllocError)) (share : Share N T) → Gathers number run fact waits queue home workers jobs shares left share → left ≡ [] → IsGathered number run fact waits queue home (numbers_below workers) jobs share
+  pub gathers_all : (left : List (Result (Share N T) AllocError)) (share : Share N T) → Gathers number run fact waits queue runtime workers jobs shares left share → left ≡ [] → IsGathered number run fact waits queue runtime (numbers_below workers) jobs share
   gathers_all left share is empty =
       let done : is.done ≡ workers = omega (arith, is.count, ap length empty) in
-      subst (λ (x : ℕ × List (TaskPass N T)). IsGathered number run fact waits queue home (numbers_below x.0) x.1 share) (λ i. (done i, drop (length (empty i)) jobs)) is.got
+      subst (λ (x : ℕ × List (TaskPass N T)). IsGathered number run fact waits queue runtime (numbers_below x.0) x.1 share) (λ i. (done i, drop (length (empty i)) jobs)) is.got
 
 -- a round, from what its calls promise
-module _ {N T : Type 0} (number : T → ℕ) (run : T → N) (fact waits : T → Type 0) (queue : TaskQueue N T) (home : Option N) (workers : ℕ) (pass : TaskPass N T) (jobs : List (TaskPass N T)) (are : AreJobs queue home 1024 workers pass jobs) where
-  pub can_gather : 1 ≤ workers → (shares : List (Result (Share N T) AllocError)) → AreSharesOf number run fact waits queue jobs shares → CanGather number run fact waits queue home workers jobs shares
+module _ {N T : Type 0} (number : T → ℕ) (run : T → N) (fact waits : T → Type 0) (queue : TaskQueue N T) (runtime : Option N) (workers : ℕ) (pass : TaskPass N T) (jobs : List (TaskPass N T)) (are : AreJobs queue runtime 1024 workers pass jobs) where
+  pub can_gather : 1 ≤ workers → (shares : List (Result (Share N T) AllocError)) → AreSharesOf number run fact waits queue jobs shares → CanGather number run fact waits queue runtime workers jobs shares
   can_gather some shares of = record {
     some = some;
     count = of.count ∙ are.count;

@@ -41,25 +41,25 @@ module _ {T : Type 0} (waits : T → Type 0) where
       one (inr p) = subst waits p.1 w
 
 module _ {N T : Type 0} (number : T → ℕ) (run : T → N) (fact : T → Type 0) where
-  pub tasks_none : (home : Option N) (tasks : List T) → tasks ≡ [] → AreTasks run fact home tasks
-  tasks_none home tasks empty k task e = absurd (nothing k task (ap (λ (xs : List T). slice_get xs k) (sym empty) ∙ e))
+  pub tasks_none : (runtime : Option N) (tasks : List T) → tasks ≡ [] → AreTasks run fact runtime tasks
+  tasks_none runtime tasks empty k task e = absurd (nothing k task (ap (λ (xs : List T). slice_get xs k) (sym empty) ∙ e))
     where
       nothing : (k : ℕ) (x : T) → slice_get [] k ≡ Some x → ⊥
       nothing k x e = cc
 
-  pub tasks_more : (home : Option N) (tasks more : List T) (task : T) → AreTasks run fact home tasks → more ≡ tasks ++ task ∷ [] → home ≡ Some (run task) → fact task → AreTasks run fact home more
-  tasks_more home tasks more task all parked is holds k x e = one (snoc_cases tasks task k x (ap (λ (xs : List T). slice_get xs k) (sym parked) ∙ e))
+  pub tasks_more : (runtime : Option N) (tasks more : List T) (task : T) → AreTasks run fact runtime tasks → more ≡ tasks ++ task ∷ [] → runtime ≡ Some (run task) → fact task → AreTasks run fact runtime more
+  tasks_more runtime tasks more task all parked is holds k x e = one (snoc_cases tasks task k x (ap (λ (xs : List T). slice_get xs k) (sym parked) ∙ e))
     where
-      one : ((k < length tasks) × (slice_get tasks k ≡ Some x)) ⊎ ((k ≡ length tasks) × (task ≡ x)) → (home ≡ Some (run x)) × fact x
+      one : ((k < length tasks) × (slice_get tasks k ≡ Some x)) ⊎ ((k ≡ length tasks) × (task ≡ x)) → (runtime ≡ Some (run x)) × fact x
       one (inl p) = all k x p.1
-      one (inr p) = subst (λ (y : T). (home ≡ Some (run y)) × fact y) p.1 (is, holds)
+      one (inr p) = subst (λ (y : T). (runtime ≡ Some (run y)) × fact y) p.1 (is, holds)
 
   -- the last of them, and those before it
-  pub task_last : (home : Option N) (tasks rest : List T) (task : T) → AreTasks run fact home tasks → tasks ≡ rest ++ task ∷ [] → (home ≡ Some (run task)) × fact task
-  task_last home tasks rest task all split = all (length rest) task (ap (λ (xs : List T). slice_get xs (length rest)) split ∙ last_there rest task)
+  pub task_last : (runtime : Option N) (tasks rest : List T) (task : T) → AreTasks run fact runtime tasks → tasks ≡ rest ++ task ∷ [] → (runtime ≡ Some (run task)) × fact task
+  task_last runtime tasks rest task all split = all (length rest) task (ap (λ (xs : List T). slice_get xs (length rest)) split ∙ last_there rest task)
 
-  pub tasks_less : (home : Option N) (tasks rest : List T) (task : T) → AreTasks run fact home tasks → tasks ≡ rest ++ task ∷ [] → AreTasks run fact home rest
-  tasks_less home tasks rest task all split k x e = all k x (ap (λ (xs : List T). slice_get xs k) split ∙ in_prefix rest (task ∷ []) k x e)
+  pub tasks_less : (runtime : Option N) (tasks rest : List T) (task : T) → AreTasks run fact runtime tasks → tasks ≡ rest ++ task ∷ [] → AreTasks run fact runtime rest
+  tasks_less runtime tasks rest task all split k x e = all k x (ap (λ (xs : List T). slice_get xs k) split ∙ in_prefix rest (task ∷ []) k x e)
 
   pub numbers_more : (h : ℕ → ℕ) (tasks rest : List T) (task : T) → tasks ≡ rest ++ task ∷ [] → sum_numbers number h tasks ≡ sum_numbers number h rest + h (number task)
   numbers_more h tasks rest task split = ap (λ (xs : List T). sum_numbers number h xs) split ∙ sum_by_push (λ (x : T). h (number x)) rest task
@@ -86,7 +86,7 @@ module _ {N T : Type 0} (number : T → ℕ) (run : T → N) (fact : T → Type 
       pub rests : (u : Share N T) → IsTaskPass queue u.pass → IsSamePass share.pass u.pass → u.parked.items ≡ share.parked.items
           → ((h : ℕ → ℕ) → put_by h u.pass ≡ put_by h share.pass) → ((h : ℕ → ℕ) → taken_by h u.pass ≡ taken_by h share.pass) → IsShare number run fact queue u × IsBalanced number share u
       rests u pass same parked put taken = (
-        record { pass_is = pass; home = is.home; knows = same.run is.home is.knows; each = λ k x e. is.each k x (ap (λ (xs : List T). slice_get xs k) (sym parked) ∙ e) },
+        record { pass_is = pass; runtime = is.runtime; knows = same.run is.runtime is.knows; each = λ k x e. is.each k x (ap (λ (xs : List T). slice_get xs k) (sym parked) ∙ e) },
         record { same = same; held = λ h. omega (arith, put h, taken h, ap (λ (xs : List T). sum_numbers number h xs) parked) },
       )
 
@@ -96,16 +96,16 @@ module _ {N T : Type 0} (number : T → ℕ) (run : T → N) (fact : T → Type 
             → ((h : ℕ → ℕ) → (put_by h u.pass ≡ put_by h mid + h m) × (taken_by h u.pass ≡ taken_by h mid)) → IsShare number run fact queue u × IsBalanced number share u
         puts_again m u same_number pass same parked put =
             let all = same_then share.pass mid u.pass took same in (
-              record { pass_is = pass; home = is.home; knows = all.run is.home is.knows; each = λ k x e. is.each k x (ap (λ (xs : List T). slice_get xs k) (sym parked) ∙ e) },
+              record { pass_is = pass; runtime = is.runtime; knows = all.run is.runtime is.knows; each = λ k x e. is.each k x (ap (λ (xs : List T). slice_get xs k) (sym parked) ∙ e) },
               record { same = all; held = λ h. omega (arith, put_took h, taken_took h, (put h).0, (put h).1, ap h same_number, ap (λ (xs : List T). sum_numbers number h xs) parked) },
             )
 
         -- or it was parked
-        pub parks : (task : T) (u : Share N T) → number task ≡ n → is.home ≡ Some (run task) → fact task → IsTaskPass queue u.pass → u.pass ≡ mid → u.parked.items ≡ share.parked.items ++ task ∷ []
+        pub parks : (task : T) (u : Share N T) → number task ≡ n → is.runtime ≡ Some (run task) → fact task → IsTaskPass queue u.pass → u.pass ≡ mid → u.parked.items ≡ share.parked.items ++ task ∷ []
             → IsShare number run fact queue u × IsBalanced number share u
-        parks task u same_number home holds pass pass_is parked =
+        parks task u same_number runtime holds pass pass_is parked =
             let same = subst (IsSamePass share.pass) (sym pass_is) took in (
-              record { pass_is = pass; home = is.home; knows = same.run is.home is.knows; each = tasks_more is.home share.parked.items u.parked.items task is.each parked home holds },
+              record { pass_is = pass; runtime = is.runtime; knows = same.run is.runtime is.knows; each = tasks_more is.runtime share.parked.items u.parked.items task is.each parked runtime holds },
               record {
                 same = same;
                 held = λ h.
@@ -119,9 +119,9 @@ module _ {N T : Type 0} (number : T → ℕ) (run : T → N) (fact : T → Type 
       unparks rest task u split pass same parked put = (
         record {
           pass_is = pass;
-          home = is.home;
-          knows = same.run is.home is.knows;
-          each = λ k x e. tasks_less is.home share.parked.items rest task is.each split k x (ap (λ (xs : List T). slice_get xs k) (sym parked) ∙ e);
+          runtime = is.runtime;
+          knows = same.run is.runtime is.knows;
+          each = λ k x e. tasks_less is.runtime share.parked.items rest task is.each split k x (ap (λ (xs : List T). slice_get xs k) (sym parked) ∙ e);
         },
         record {
           same = same;
@@ -131,13 +131,13 @@ module _ {N T : Type 0} (number : T → ℕ) (run : T → N) (fact : T → Type 
       )
 
       -- the pass knows of which run this task is
-      pub knows_task : (u : TaskPass N T) (task : T) → IsSamePass share.pass u → is.home ≡ Some (run task) → KnowsRun (Some (run task)) u
-      knows_task u task same home = subst (λ r. KnowsRun r u) home (same.run is.home is.knows)
+      pub knows_task : (u : TaskPass N T) (task : T) → IsSamePass share.pass u → is.runtime ≡ Some (run task) → KnowsRun (Some (run task)) u
+      knows_task u task same runtime = subst (λ r. KnowsRun r u) runtime (same.run is.runtime is.knows)
 
     -- before the first turn
-    pub fresh : (waits : T → Type 0) (home : Option N) (share : Share N T) → IsTaskPass queue share.pass → KnowsRun home share.pass → share.parked.items ≡ [] → IsShareOf number run fact waits queue share.pass share
-    fresh waits home share pass knows empty = record {
-      is = record { pass_is = pass; home = home; knows = knows; each = tasks_none home share.parked.items empty };
+    pub fresh : (waits : T → Type 0) (runtime : Option N) (share : Share N T) → IsTaskPass queue share.pass → KnowsRun runtime share.pass → share.parked.items ≡ [] → IsShareOf number run fact waits queue share.pass share
+    fresh waits runtime share pass knows empty = record {
+      is = record { pass_is = pass; runtime = runtime; knows = knows; each = tasks_none runtime share.parked.items empty };
       same = same_pass share.pass;
       held = λ h. omega (arith, ap (λ (xs : List T). sum_numbers number h xs) empty);
       still = λ none. still_none waits (share.moved ≡ false) share.parked.items empty none;

@@ -120,7 +120,7 @@ module _ {N T : Type 0} (ws : List (Window N T)) where
       keeps_stolen task is = record {
         number = refl;
         seat = λ a. record { lane = a.lane; within = a.within; at = a.at; rights = are };
-        run = λ home a. record { lane = a.lane; rights = stolen_keeps (seat_knows x) (rights_know rights.items) task is (λ v. v.run ≡ home) (λ v xs p. p) a.rights };
+        run = λ runtime a. record { lane = a.lane; rights = stolen_keeps (seat_knows x) (rights_know rights.items) task is (λ v. v.run ≡ runtime) (λ v xs p. p) a.rights };
         dealt = λ a. record { lane = omega (arith, a.lane, stolen_count (seat_knows x) (rights_know rights.items) task is); rights = stolen_keeps (seat_knows x) (rights_know rights.items) task is (λ v. v.parts ≡ 1) (λ v xs p. p) a.rights };
         right = λ k. stolen_places (seat_knows x) (rights_know rights.items) task is k (cases_eq k is.at);
       }
@@ -129,7 +129,7 @@ module _ {N T : Type 0} (ws : List (Window N T)) where
       keeps_none same = record {
         number = refl;
         seat = λ a. record { lane = a.lane; within = a.within; at = a.at; rights = are };
-        run = λ home a. record { lane = a.lane; rights = λ k v e. a.rights k v (ap (λ (vs : List (Option (Tally N))). slice_get vs k) (sym same) ∙ e) };
+        run = λ runtime a. record { lane = a.lane; rights = λ k v e. a.rights k v (ap (λ (vs : List (Option (Tally N))). slice_get vs k) (sym same) ∙ e) };
         dealt = λ a. record { lane = ap (λ (vs : List (Option (Tally N))). (lane_knows x.lane).parts + sum_by right_count vs) same ∙ a.lane; rights = λ k v e. a.rights k v (ap (λ (vs : List (Option (Tally N))). slice_get vs k) (sym same) ∙ e) };
         right = λ k. ap (λ (vs : List (Option (Tally N))). is_empty_place (slice_get vs k)) same;
       }
@@ -189,7 +189,7 @@ module _ {N T : Type 0} where
         → IsTakenAmong number run fact old (set now k (record x { lane = lane })) (Some task)
     look_finds number run fact task xs_are run_is holds = (
       (λ h. look_sum h (h (number task)) (ap (sum_by h) xs_are ∙ more_by h (lane_knows x.lane).taken (number task))),
-      (λ home all. sym (each_at (KnowsRunAt home) old k x all old_at).lane ∙ run_is),
+      (λ runtime all. sym (each_at (KnowsRunAt runtime) old k x all old_at).lane ∙ run_is),
       holds,
     )
 
@@ -233,6 +233,6 @@ module _ {N T : Type 0} (number : T → ℕ) (run : T → N) (fact : T → Type 
     (λ h.
         let same : tally_taken h (lane_knows lane) ≡ tally_taken h (lane_knows x.lane) = ap (tally_taken h) knows in
         omega (arith, told.0 h, sum_by-cons (seat_taken h) x xs, sum_by-cons (seat_taken h) (record x { lane = lane }) ys, same)),
-    (λ home all. told.1 home all.1),
+    (λ runtime all. told.1 runtime all.1),
     told.2,
   )

@@ -40,7 +40,7 @@ module _ {N T : Type 0} (number : T → ℕ) (run : T → N) (fact : T → Type 
   IsTakenAmong old new result = MatchOption result
       (((h : ℕ → ℕ) → sum_by (seat_taken h) new ≡ sum_by (seat_taken h) old) × Each IsExhaustedAt old)
       (λ task. ((h : ℕ → ℕ) → sum_by (seat_taken h) new ≡ sum_by (seat_taken h) old + h (number task))
-      × ((home : Option N) → Each (KnowsRunAt home) old → home ≡ Some (run task)) × fact task)
+      × ((runtime : Option N) → Each (KnowsRunAt runtime) old → runtime ≡ Some (run task)) × fact task)
 
   -- a task was stolen by a right, if there is one, or its deque was empty at a moment
   abbrev pub IsStolenBy : Option (Tally N) → Option (Tally N) → Option T → Type 0

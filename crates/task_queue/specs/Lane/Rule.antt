@@ -51,17 +51,17 @@ module _ {T N : Type 0} (number : T → ℕ) where
 module _ {T N : Type 0} (number : T → ℕ) (run : T → N) (fact : T → Type 0) where
   -- it is a task of this run, and its fact holds
   abbrev pub IsTaskThere : Option N → Item N T → Type 0
-  IsTaskThere home (item.Run r) = ⊥
-  IsTaskThere home (item.Task x) = (home ≡ Some (run x)) × fact x
+  IsTaskThere runtime (item.Run r) = ⊥
+  IsTaskThere runtime (item.Task x) = (runtime ≡ Some (run x)) × fact x
 
   abbrev pub AreTasksThere : Option N → List (Item N T) → Type 0
-  AreTasksThere home [] = Unit {0}
-  AreTasksThere home (x ∷ xs) = IsTaskThere home x × AreTasksThere home xs
+  AreTasksThere runtime [] = Unit {0}
+  AreTasksThere runtime (x ∷ xs) = IsTaskThere runtime x × AreTasksThere runtime xs
 
   -- what the deque holds: of which run it is alone, or tasks of that run
   abbrev pub LiesThere : Bool → Option N → List (Item N T) → Type 0
-  LiesThere true home items = (r : N) × (items ≡ item.Run r ∷ [])
-  LiesThere false home items = AreTasksThere home items
+  LiesThere true runtime items = (r : N) × (items ≡ item.Run r ∷ [])
+  LiesThere false runtime items = AreTasksThere runtime items
 
   -- the rule of a deque: what was put there is what was taken and what lies there, whatever is added up over the numbers
   pub record IsDeque (items : List (Item N T)) (views : List (Tally N)) : Type 0 where

@@ -93,10 +93,10 @@ fn deal<N: Drop, T: Steps<N>>(
     tasks: Vec<T>,
     workers: u32,
 ) -> Result<Vec<TaskPass<N, T>>, AllocError>
-    requires pass { (home : Option N) × IsNewPass queue.now home workers (length tasks.items + 1024) pass × AreTasks T.run_of T.fact home tasks.items }
+    requires pass { (runtime : Option N) × IsNewPass queue.now runtime workers (length tasks.items + 1024) pass × AreTasks T.run_of T.fact runtime tasks.items }
     requires workers { 1 ≤ workers }
-    ensures { IfOk result (λ jobs. (home : Option N) → IsNewPass queue.now home workers (length tasks.items + 1024) pass
-        → (put : TaskPass _ _) × HasPut T.number_of queue.now tasks.items pass put × AreJobs queue.now home 1024 workers put jobs.items) }
+    ensures { IfOk result (λ jobs. (runtime : Option N) → IsNewPass queue.now runtime workers (length tasks.items + 1024) pass
+        → (put : TaskPass _ _) × HasPut T.number_of queue.now tasks.items pass put × AreJobs queue.now runtime 1024 workers put jobs.items) }
 {
     put_all(queue, &mut pass, tasks);
     split_all(alloc, queue, pass, workers)
@@ -112,7 +112,7 @@ fn split_all<N: Drop, T: Steps<N>>(
     requires pass { IsTaskPass queue.now pass × IsDealt pass × (owned pass ≡ numbers_below workers) × (workers ≤ places pass) }
     requires room { (d : ℕ) → HasRoomOn d 1024 pass }
     requires workers { 1 ≤ workers }
-    ensures { IfOk result (λ jobs. (home : Option N) → KnowsRun home pass → AreJobs queue.now home 1024 workers pass jobs.items) }
+    ensures { IfOk result (λ jobs. (runtime : Option N) → KnowsRun runtime pass → AreJobs queue.now runtime 1024 workers pass jobs.items) }
 {
     let mut jobs = Vec::new(alloc);
     for _ in 1..workers {
@@ -131,7 +131,7 @@ fn put_all<N: Drop, T: Steps<N>>(
 )
     requires pass { IsTaskPass queue.now pass.old }
     requires room { HasRoom (length tasks.items) pass.old }
-    requires run { (home : Option N) × KnowsRun home pass.old × AreTasks T.run_of T.fact home tasks.items }
+    requires run { (runtime : Option N) × KnowsRun runtime pass.old × AreTasks T.run_of T.fact runtime tasks.items }
     ensures { HasPut T.number_of queue.now tasks.items pass.old pass.new }
 {
     while let Some(task) = tasks.pop() {
@@ -144,10 +144,10 @@ fn gather<N: Drop, T: Steps<N>>(
     queue: &TaskQueue<N, T>,
     mut shares: Vec<Result<Share<N, T>, AllocError>>,
 ) -> Result<Share<N, T>, AllocError>
-    requires { (home : Option N) × (jobs : List (TaskPass _ _)) × (workers : ℕ) × CanGather T.number_of T.run_of T.fact T.waits queue.now home workers jobs shares.items }
-    ensures { IfOk result (λ share. (home : Option N) (jobs : List (TaskPass _ _)) (workers : ℕ)
-        → CanGather T.number_of T.run_of T.fact T.waits queue.now home workers jobs shares.items
-        → IsGathered T.number_of T.run_of T.fact T.waits queue.now home (numbers_below workers) jobs share) }
+    requires { (runtime : Option N) × (jobs : List (TaskPass _ _)) × (workers : ℕ) × CanGather T.number_of T.run_of T.fact T.waits queue.now runtime workers jobs shares.items }
+    ensures { IfOk result (λ share. (runtime : Option N) (jobs : List (TaskPass _ _)) (workers : ℕ)
+        → CanGather T.number_of T.run_of T.fact T.waits queue.now runtime workers jobs shares.items
+        → IsGathered T.number_of T.run_of T.fact T.waits queue.now runtime (numbers_below workers) jobs share) }
 {
     let first = match shares.pop() {
         Some(share) => share,
@@ -170,7 +170,7 @@ fn drain<N: Drop, T: Steps<N>, R: Wait>(
 ) -> Result<Vec<T>, AllocError>
     requires { IsTaskPass queue.now pass.old × OwnsAll queue.now pass.old × IsDealt pass.old }
     ensures all { IfOk result (λ tasks. (h : ℕ → ℕ) → put_by h pass.old ≡ taken_by h pass.old + sum_numbers T.number_of h tasks.items) }
-    ensures tasks { IfOk result (λ tasks. (home : Option N) → KnowsRun home pass.old → AreTasks T.run_of T.fact home tasks.items) }
+    ensures tasks { IfOk result (λ tasks. (runtime : Option N) → KnowsRun runtime pass.old → AreTasks T.run_of T.fact runtime tasks.items) }
 {
     let mut tasks = Vec::new(alloc);
     for _ in rt.forever() {
@@ -190,8 +190,8 @@ fn try_all<N, T: Steps<N>, R: Wait>(
     tasks: &mut Vec<T>,
     mut moved: bool,
 ) -> Result<bool, AllocError>
-    requires { (home : Option N) × AreTasks T.run_of T.fact home rest.items }
-    ensures tasks { OnOk result ((home : Option N) → AreTasks T.run_of T.fact home rest.items → AreTasks T.run_of T.fact home tasks.old.items → AreTasks T.run_of T.fact home tasks.new.items) }
+    requires { (runtime : Option N) × AreTasks T.run_of T.fact runtime rest.items }
+    ensures tasks { OnOk result ((runtime : Option N) → AreTasks T.run_of T.fact runtime rest.items → AreTasks T.run_of T.fact runtime tasks.old.items → AreTasks T.run_of T.fact runtime tasks.new.items) }
     ensures all { OnOk result ((h : ℕ → ℕ) → sum_numbers T.number_of h tasks.new.items ≡ sum_numbers T.number_of h tasks.old.items + sum_numbers T.number_of h rest.items) }
     ensures waits { IfOk result (λ now. now ≡ false → (moved ≡ false → AllWait T.waits tasks.old.items) → AllWait T.waits tasks.new.items) }
 {

@@ -25,37 +25,37 @@ module _ {N T : Type 0} (number : T → ℕ) where
 
 module _ {N T : Type 0} where
   -- a worker's pass: it owns one deque
-  pub record IsJob (queue : TaskQueue N T) (home : Option N) (room number : ℕ) (job : TaskPass N T) : Type 0 where
+  pub record IsJob (queue : TaskQueue N T) (runtime : Option N) (room number : ℕ) (job : TaskPass N T) : Type 0 where
     pub is : IsTaskPass queue job
     pub dealt : IsDealt job
-    pub knows : KnowsRun home job
+    pub knows : KnowsRun runtime job
     pub room_is : HasRoom room job
     pub owned_are : owned job ≡ number ∷ []
 
   -- the passes of so many workers, the last one first; the last of them has places for all
-  pub record AreJobs (queue : TaskQueue N T) (home : Option N) (room workers : ℕ) (pass : TaskPass N T) (jobs : List (TaskPass N T)) : Type 0 where
+  pub record AreJobs (queue : TaskQueue N T) (runtime : Option N) (room workers : ℕ) (pass : TaskPass N T) (jobs : List (TaskPass N T)) : Type 0 where
     pub count : length jobs ≡ workers
-    pub each : (k : ℕ) (job : TaskPass N T) → slice_get jobs k ≡ Some job → (number : ℕ) × (number + k + 1 ≡ workers) × IsJob queue home room number job
+    pub each : (k : ℕ) (job : TaskPass N T) → slice_get jobs k ≡ Some job → (number : ℕ) × (number + k + 1 ≡ workers) × IsJob queue runtime room number job
     pub last : (k : ℕ) (job : TaskPass N T) → slice_get jobs k ≡ Some job → k + 1 ≡ workers → workers ≤ places job
     pub put : (h : ℕ → ℕ) → sum_by (put_by h) jobs ≡ put_by h pass
     pub taken : (h : ℕ → ℕ) → sum_by (taken_by h) jobs ≡ taken_by h pass
 
 module _ {N T : Type 0} (number_of : T → ℕ) (run : T → N) (fact waits : T → Type 0) where
   -- what workers bring back whose passes were those of so many
-  pub record CanGather (queue : TaskQueue N T) (home : Option N) (workers : ℕ) (jobs : List (TaskPass N T)) (shares : List (Result (Share N T) AllocError)) : Type 0 where
+  pub record CanGather (queue : TaskQueue N T) (runtime : Option N) (workers : ℕ) (jobs : List (TaskPass N T)) (shares : List (Result (Share N T) AllocError)) : Type 0 where
     pub some : 1 ≤ workers
     pub count : length shares ≡ workers
     pub jobs_count : length jobs ≡ workers
     pub each : (k : ℕ) (share : Share N T) → slice_get shares k ≡ Some (Ok share)
-        → (job : TaskPass N T) × (number : ℕ) × (number + k + 1 ≡ workers) × (slice_get jobs k ≡ Some job) × IsJob queue home 1024 number job × IsShareOf number_of run fact waits queue job share
+        → (job : TaskPass N T) × (number : ℕ) × (number + k + 1 ≡ workers) × (slice_get jobs k ≡ Some job) × IsJob queue runtime 1024 number job × IsShareOf number_of run fact waits queue job share
     pub last : (k : ℕ) (job : TaskPass N T) → slice_get jobs k ≡ Some job → k + 1 ≡ workers → workers ≤ places job
 
   -- what the workers bring back in the end: a pass of these deques, and the parked tasks, with what the workers' passes had
-  pub record IsGathered (queue : TaskQueue N T) (home : Option N) (owns : List ℕ) (jobs : List (TaskPass N T)) (share : Share N T) : Type 0 where
+  pub record IsGathered (queue : TaskQueue N T) (runtime : Option N) (owns : List ℕ) (jobs : List (TaskPass N T)) (share : Share N T) : Type 0 where
     pub is : IsTaskPass queue share.pass
     pub dealt : IsDealt share.pass
-    pub knows : KnowsRun home share.pass
+    pub knows : KnowsRun runtime share.pass
     pub owned_are : owned share.pass ≡ owns
-    pub tasks_are : AreTasks run fact home share.parked.items
+    pub tasks_are : AreTasks run fact runtime share.parked.items
     pub waits_if : share.moved ≡ false → AllWait waits share.parked.items
     pub held : (h : ℕ → ℕ) → put_by h share.pass + sum_numbers number_of h share.parked.items + sum_by (taken_by h) jobs ≡ taken_by h share.pass + sum_by (put_by h) jobs

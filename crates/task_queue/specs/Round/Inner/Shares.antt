@@ -10,8 +10,8 @@ module _ {N T : Type 0} where
   -- a pass with which a worker may begin its turns
   pub record MayWork (queue : TaskQueue N T) (pass : TaskPass N T) : Type 0 where
     pub pass_is : IsTaskPass queue pass
-    pub home : Option N
-    pub knows : KnowsRun home pass
+    pub runtime : Option N
+    pub knows : KnowsRun runtime pass
     pub room : HasRoom 1024 pass
 
   -- there is room for all parked tasks, and so many turns
@@ -44,9 +44,9 @@ module _ {N T : Type 0} (number : T → ℕ) (run : T → N) (fact : T → Type 
   -- a pass of the queue, and tasks of its run
   pub record IsShare (queue : TaskQueue N T) (share : Share N T) : Type 0 where
     pub pass_is : IsTaskPass queue share.pass
-    pub home : Option N
-    pub knows : KnowsRun home share.pass
-    pub each : AreTasks run fact home share.parked.items
+    pub runtime : Option N
+    pub knows : KnowsRun runtime share.pass
+    pub each : AreTasks run fact runtime share.parked.items
 
   -- what a worker brings back, whose pass was this
   pub record IsShareOf (waits : T → Type 0) (queue : TaskQueue N T) (old : TaskPass N T) (share : Share N T) : Type 0 where

@@ -22,4 +22,4 @@ pub split_all-requires-clause-room : goal.split_all-requires-clause-room
 split_all-requires-clause-room g c = room_left g.T.Numbered.number_of c.args.queue.now c.requires.pass.0 c.args.workers c.args.tasks.items c.args.pass c.put_all.new.pass c.requires.pass.1 c.put_all.ensures
 
 pub returns : goal.returns
-returns g c = IfOk-weaker c.split_all.result _ _ (λ jobs are home new. (c.put_all.new.pass, c.put_all.ensures, are home (c.put_all.ensures.same.run home new.knows))) c.split_all.ensures
+returns g c = IfOk-weaker c.split_all.result _ _ (λ jobs are runtime new. (c.put_all.new.pass, c.put_all.ensures, are runtime (c.put_all.ensures.same.run runtime new.knows))) c.split_all.ensures

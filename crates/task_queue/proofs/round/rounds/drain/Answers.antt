@@ -11,7 +11,7 @@ loop-init g c =
       c.requires.1,
       c.requires.2,
       (λ h. (refl, let none = ap (λ (ts : List _). sum_numbers g.T.Numbered.number_of h ts) empty in omega (arith, none))),
-      λ home knows. (knows, tasks_none g.T.Numbered.number_of g.T.Numbered.run_of g.T.Numbered.fact home c.new-tasks.result.items empty),
+      λ runtime knows. (knows, tasks_none g.T.Numbered.number_of g.T.Numbered.run_of g.T.Numbered.fact runtime c.new-tasks.result.items empty),
     )
 
 pub loop-preserved : goal.loop-preserved
@@ -26,10 +26,10 @@ loop-preserved g c =
         took.put h ∙ (is.3 h).0,
         omega (arith, took.taken.0 h, (is.3 h).1, numbers_more g.T.Numbered.number_of g.T.Numbered.run_of g.T.Numbered.fact h c.push.new.self.items c.loop.tasks.items c.in-Some-take.task pushed),
       )),
-      λ home knows.
-          let was = is.4 home knows in (
-            took.pass.1.run home was.0,
-            tasks_more g.T.Numbered.number_of g.T.Numbered.run_of g.T.Numbered.fact home c.loop.tasks.items c.push.new.self.items c.in-Some-take.task was.1 pushed (took.taken.1 home was.0) took.taken.2,
+      λ runtime knows.
+          let was = is.4 runtime knows in (
+            took.pass.1.run runtime was.0,
+            tasks_more g.T.Numbered.number_of g.T.Numbered.run_of g.T.Numbered.fact runtime c.loop.tasks.items c.push.new.self.items c.in-Some-take.task was.1 pushed (took.taken.1 runtime was.0) took.taken.2,
           ),
     )
 
@@ -40,4 +40,4 @@ returns-in-None-take-clause-all g c h =
     omega (arith, (is.3 h).0, (is.3 h).1, none.put h, none.taken.0 h, none.all is.1 is.2 h)
 
 pub returns-in-None-take-clause-tasks : goal.returns-in-None-take-clause-tasks
-returns-in-None-take-clause-tasks g c home knows = (c.loop.invariant.4 home knows).1
+returns-in-None-take-clause-tasks g c runtime knows = (c.loop.invariant.4 runtime knows).1

@@ -9,4 +9,4 @@ invariant-loop g l =
     × OwnsAll l.queue l.pass
     × IsDealt l.pass
     × ((h : ℕ → ℕ) → (put_by h l.pass ≡ put_by h l.fn.pass) × (taken_by h l.pass ≡ taken_by h l.fn.pass + sum_numbers g.T.Numbered.number_of h l.tasks.items))
-    × ((home : Option _) → KnowsRun home l.fn.pass → KnowsRun home l.pass × AreTasks g.T.Numbered.run_of g.T.Numbered.fact home l.tasks.items)
+    × ((runtime : Option _) → KnowsRun runtime l.fn.pass → KnowsRun runtime l.pass × AreTasks g.T.Numbered.run_of g.T.Numbered.fact runtime l.tasks.items)

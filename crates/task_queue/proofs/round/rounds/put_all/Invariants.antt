@@ -7,7 +7,7 @@ abbrev pub invariant-loop-task : goal.invariant-loop-task
 invariant-loop-task g l =
     IsTaskPass l.queue l.pass
     × IsSamePass l.fn.pass l.pass
-    × ((home : Option _) → AreTasks g.T.Numbered.run_of g.T.Numbered.fact home l.fn.tasks.items → AreTasks g.T.Numbered.run_of g.T.Numbered.fact home l.tasks.items)
+    × ((runtime : Option _) → AreTasks g.T.Numbered.run_of g.T.Numbered.fact runtime l.fn.tasks.items → AreTasks g.T.Numbered.run_of g.T.Numbered.fact runtime l.tasks.items)
     × ((h : ℕ → ℕ) → put_by h l.pass + sum_numbers g.T.Numbered.number_of h l.tasks.items ≡ put_by h l.fn.pass + sum_numbers g.T.Numbered.number_of h l.fn.tasks.items)
     × ((h : ℕ → ℕ) → taken_by h l.pass ≡ taken_by h l.fn.pass)
     × ((n : ℕ) → HasRoom (length l.fn.tasks.items + n) l.fn.pass → HasRoom (length l.tasks.items + n) l.pass)

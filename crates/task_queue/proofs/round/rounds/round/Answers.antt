@@ -31,7 +31,7 @@ dealt g c = c.in_ok-jobs.ensures (Some c.args.run) (new_pass g c)
 ready : (g : _) (c : In_ok-jobs g) (k : ℕ) (job : TaskPass _ _) → slice_get c.in_ok-jobs.jobs.items k ≡ Some job → MayWork c.in_ok-made.made job
 ready g c k job e =
     let is = ((dealt g c).2.each k job e).2 in
-    record { pass_is = is.is; home = Some c.args.run; knows = is.knows; room = is.room_is }
+    record { pass_is = is.is; runtime = Some c.args.run; knows = is.knows; room = is.room_is }
 
 pub work_all-requires-after_bounds : goal.work_all-requires-after_bounds
 work_all-requires-after_bounds g c κs within = ready g (goal.at.work_all-requires-after_bounds g c).In_ok-jobs

@@ -18,7 +18,7 @@ loop-init g c =
         places_are = c.requires.pass.3;
         room = c.requires.room;
       },
-      λ home knows. splits_none c.args.queue.now c.args.workers home c.args.pass c.new-jobs.result.items c.new-jobs.ensures.items knows,
+      λ runtime knows. splits_none c.args.queue.now c.args.workers runtime c.args.pass c.new-jobs.result.items c.new-jobs.ensures.items knows,
     )
 
 pub split-job-requires-clause-pass : goal.split-job-requires-clause-pass
@@ -38,14 +38,14 @@ loop-preserved g c =
     let longer : length c.push.new.self.items ≡ length jobs + 1 = omega (arith, ap length pushed, length-append jobs (c.split-job.result ∷ [])) in (
       omega (arith, longer, c.loop.invariant.0),
       subst (λ n. IsLeft c.args.queue.now c.args.workers c.split-job.new.pass n) (sym longer) (left_less c.args.queue.now c.args.workers c.loop.pass c.split-job.new.pass c.split-job.result (length jobs) was split.passes split.deques split.room),
-      λ home knows.
-          let before = c.loop.invariant.2 home knows in
-          let both = split.run home before.knows in
-          splits_more c.args.queue.now c.args.workers home c.args.pass c.loop.pass jobs c.push.new.self.items c.split-job.result before pushed c.split-job.new.pass
-          (job_is c.args.queue.now c.args.workers c.loop.pass c.split-job.new.pass c.split-job.result (length jobs) was split.passes split.deques split.room home both.1) both.0 split.sums,
+      λ runtime knows.
+          let before = c.loop.invariant.2 runtime knows in
+          let both = split.run runtime before.knows in
+          splits_more c.args.queue.now c.args.workers runtime c.args.pass c.loop.pass jobs c.push.new.self.items c.split-job.result before pushed c.split-job.new.pass
+          (job_is c.args.queue.now c.args.workers c.loop.pass c.split-job.new.pass c.split-job.result (length jobs) was split.passes split.deques split.room runtime both.1) both.0 split.sums,
     )
 
 pub returns : goal.returns
-returns g c home knows =
-    splits_all c.args.queue.now c.args.workers home c.args.pass c.loop.pass c.loop.jobs.items c.push-2.new.self.items c.loop.pass (c.loop.invariant.2 home knows) c.in_ok-push-2.ensures.items refl c.loop.invariant.1
+returns g c runtime knows =
+    splits_all c.args.queue.now c.args.workers runtime c.args.pass c.loop.pass c.loop.jobs.items c.push-2.new.self.items c.loop.pass (c.loop.invariant.2 runtime knows) c.in_ok-push-2.ensures.items refl c.loop.invariant.1
     (omega (arith, c.loop.invariant.0, c.loop-test.false))

@@ -8,4 +8,4 @@ abbrev pub invariant-loop : goal.invariant-loop
 invariant-loop g l =
     (length l.jobs.items + 1 ≡ l.counter)
     × IsLeft l.queue l.workers l.pass (length l.jobs.items)
-    × ((home : Option _) → KnowsRun home l.fn.pass → Splits l.queue l.workers home l.fn.pass l.pass l.jobs.items)
+    × ((runtime : Option _) → KnowsRun runtime l.fn.pass → Splits l.queue l.workers runtime l.fn.pass l.pass l.jobs.items)

@@ -4,7 +4,7 @@ use Rattle.task_queue.proofs.OnRound.Turns.{still_more, tasks_more, task_last, t
 use Rattle.task_queue.proofs.round.rounds.try_all.Goals as goal
 
 pub loop-task-init : goal.loop-task-init
-loop-task-init g c = ((λ home all. all), (λ home all mine. mine), (λ h. refl), λ still waits. waits still)
+loop-task-init g c = ((λ runtime all. all), (λ runtime all mine. mine), (λ h. refl), λ still waits. waits still)
 
 pub has_moved-requires : goal.has_moved-requires
 has_moved-requires g c =
@@ -16,10 +16,10 @@ loop-task-preserved g c =
     let split = c.in-Some.ensures.items in
     let task = c.has_moved.new.task in
     let rest = c.pop.new.self.items in (
-      (λ home all. tasks_less g.T.Numbered.number_of g.T.Numbered.run_of g.T.Numbered.fact home c.loop-task.rest.items rest c.in-Some.task (is.0 home all) split),
-      (λ home all mine.
-          let last = task_last g.T.Numbered.number_of g.T.Numbered.run_of g.T.Numbered.fact home c.loop-task.rest.items rest c.in-Some.task (is.0 home all) split in
-          tasks_more g.T.Numbered.number_of g.T.Numbered.run_of g.T.Numbered.fact home c.loop-task.tasks.items c.push.new.self.items task (is.1 home all mine) c.in_ok-push.ensures.items (last.0 ∙ sym (ap Some c.has_moved.ensures.same.1)) c.has_moved.ensures.fact),
+      (λ runtime all. tasks_less g.T.Numbered.number_of g.T.Numbered.run_of g.T.Numbered.fact runtime c.loop-task.rest.items rest c.in-Some.task (is.0 runtime all) split),
+      (λ runtime all mine.
+          let last = task_last g.T.Numbered.number_of g.T.Numbered.run_of g.T.Numbered.fact runtime c.loop-task.rest.items rest c.in-Some.task (is.0 runtime all) split in
+          tasks_more g.T.Numbered.number_of g.T.Numbered.run_of g.T.Numbered.fact runtime c.loop-task.tasks.items c.push.new.self.items task (is.1 runtime all mine) c.in_ok-push.ensures.items (last.0 ∙ sym (ap Some c.has_moved.ensures.same.1)) c.has_moved.ensures.fact),
       (λ h.
           omega (
             arith,

@@ -28,7 +28,7 @@ pub put-requires-clause-run : goal.put-requires-clause-run
 put-requires-clause-run g c =
     let is = c.requires.share in
     knows_task g.T.Numbered.number_of g.T.Numbered.run_of g.T.Numbered.fact c.args.queue.now c.args.share.now is c.take.new.pass c.make_events.new.self c.in-Some.ensures.pass.1
-    (c.in-Some.ensures.taken.1 is.home is.knows ∙ sym (ap Some c.make_events.ensures.same.1))
+    (c.in-Some.ensures.taken.1 is.runtime is.knows ∙ sym (ap Some c.make_events.ensures.same.1))
 
 pub returns-then-made-gt0-clause-share : goal.returns-then-made-gt0-clause-share
 returns-then-made-gt0-clause-share g c =
@@ -46,7 +46,7 @@ returns-in_ok-push-in-Some-clause-share g c =
     let share = c.args.share.now in
     let is = c.requires.share in
     parks g.T.Numbered.number_of g.T.Numbered.run_of g.T.Numbered.fact c.args.queue.now share is c.take.new.pass (g.T.Numbered.number_of c.in-Some.task) c.in-Some.ensures.pass.1 c.in-Some.ensures.put
-    c.in-Some.ensures.taken.0 c.make_events.new.self _ c.make_events.ensures.same.0 (c.in-Some.ensures.taken.1 is.home is.knows ∙ sym (ap Some c.make_events.ensures.same.1)) c.make_events.ensures.fact c.in-Some.ensures.pass.0 refl
+    c.in-Some.ensures.taken.0 c.make_events.new.self _ c.make_events.ensures.same.0 (c.in-Some.ensures.taken.1 is.runtime is.knows ∙ sym (ap Some c.make_events.ensures.same.1)) c.make_events.ensures.fact c.in-Some.ensures.pass.0 refl
     c.in_ok-push-in-Some.ensures.items
 
 pub returns-in_ok-push-in-Some-clause-room : goal.returns-in_ok-push-in-Some-clause-room

@@ -5,7 +5,7 @@ use Rattle.task_queue.proofs.round.worker.work.Goals as goal
 pub loop-init : goal.loop-init
 loop-init g c =
     let empty = ap length c.new.ensures.items in (
-      fresh g.T.Numbered.number_of g.T.Numbered.run_of g.T.Numbered.fact c.args.queue.now g.T.Steps.waits c.requires.home _ c.requires.pass_is c.requires.knows c.new.ensures.items,
+      fresh g.T.Numbered.number_of g.T.Numbered.run_of g.T.Numbered.fact c.args.queue.now g.T.Steps.waits c.requires.runtime _ c.requires.pass_is c.requires.knows c.new.ensures.items,
       (let has = c.requires.room in omega (arith, has, empty)),
     )
 

@@ -16,12 +16,12 @@ pub put-requires-clause-run : goal.put-requires-clause-run
 put-requires-clause-run g c =
     let is = c.loop-task.invariant.0 in
     knows_task g.T.Numbered.number_of g.T.Numbered.run_of g.T.Numbered.fact c.args.queue.now c.loop-task.self is c.loop-task.self.pass c.in-Some.task (same_pass c.loop-task.self.pass)
-    (task_last g.T.Numbered.number_of g.T.Numbered.run_of g.T.Numbered.fact is.home c.loop-task.self.parked.items c.pop.new.self.items c.in-Some.task is.each c.in-Some.ensures.items).0
+    (task_last g.T.Numbered.number_of g.T.Numbered.run_of g.T.Numbered.fact is.runtime c.loop-task.self.parked.items c.pop.new.self.items c.in-Some.task is.each c.in-Some.ensures.items).0
 
 pub put-requires-clause-fact : goal.put-requires-clause-fact
 put-requires-clause-fact g c =
     let is = c.loop-task.invariant.0 in
-    (task_last g.T.Numbered.number_of g.T.Numbered.run_of g.T.Numbered.fact is.home c.loop-task.self.parked.items c.pop.new.self.items c.in-Some.task is.each c.in-Some.ensures.items).1
+    (task_last g.T.Numbered.number_of g.T.Numbered.run_of g.T.Numbered.fact is.runtime c.loop-task.self.parked.items c.pop.new.self.items c.in-Some.task is.each c.in-Some.ensures.items).1
 
 pub loop-task-preserved : goal.loop-task-preserved
 loop-task-preserved g c =
