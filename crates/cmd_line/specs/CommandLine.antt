@@ -8,6 +8,7 @@ use Rattle.clap.specs.declared.builder.value_parser.ValueParser.TheVariants as v
 use Rattle.cmd_line.specs.declared.request.Request.{Request}
 use Rattle.cmd_line.specs.declared.request.Request.TheVariants as request
 use Rattle.cmd_line.specs.declared.request.Check.{Check}
+use Rattle.cmd_line.specs.declared.request.Gen.{Gen}
 use Rattle.cmd_line.specs.declared.request.How.{How}
 use Rattle.cmd_line.specs.declared.request.Run.{Run}
 use Rattle.cmd_line.specs.declared.request.Sim.{Sim}
@@ -93,9 +94,9 @@ scheduling name = with_rule (with_rule (with_rule (with_rule (new_app name) (fil
 abbrev pub schedule : App
 schedule = with_rule (with_rule (scheduling (codes "schedule")) from) top
 
--- `verilog FILE --clock PS [--stages N] [--ii N] [--depth D] [--from F]`
+-- `verilog FILE --clock PS [--stages N] [--ii N] [--depth D] [--from F] [--top NAME]`
 abbrev pub verilog : App
-verilog = with_rule (with_rule (scheduling (codes "verilog")) depth) from
+verilog = with_rule (with_rule (with_rule (scheduling (codes "verilog")) depth) from) top
 
 -- `opt FILE [--from F] [--top NAME]`
 abbrev pub opt : App
@@ -105,12 +106,32 @@ opt = with_rule (with_rule (with_rule (new_app (codes "opt")) (file (codes "desi
 abbrev pub ir : App
 ir = with_rule (with_rule (new_app (codes "ir")) (file (codes "design"))) top
 
+-- `--seed S`
+abbrev pub seed : Rule
+seed = record (new_rule (codes "seed")) {
+  long = Some (codes "seed");
+  required = true;
+  parser = Some (vp.Signed (pos 0) (pos 2147483647));
+}
+
+-- `--procs K`
+abbrev pub procs : Rule
+procs = record (new_rule (codes "procs")) {
+  long = Some (codes "procs");
+  required = true;
+  parser = Some (vp.Signed (pos 1) (pos 255));
+}
+
+-- `gen --seed S --procs K`
+abbrev pub generate : App
+generate = with_rule (with_rule (new_app (codes "gen")) seed) procs
+
 -- the words begin with no program's name
 abbrev pub bare : App → App
 bare app = record app { top = record app.top { no_binary_name = true } }
 
 unfoldable pub xls : App
-xls = with_subcommand (with_subcommand (with_subcommand (with_subcommand (with_subcommand (with_subcommand (with_subcommand (bare (new_app (codes "xls"))) check.top) run.top) sim.top) schedule.top) opt.top) verilog.top) ir.top
+xls = with_subcommand (with_subcommand (with_subcommand (with_subcommand (with_subcommand (with_subcommand (with_subcommand (with_subcommand (bare (new_app (codes "xls"))) check.top) run.top) sim.top) schedule.top) opt.top) verilog.top) ir.top) generate.top
 
 -- ---- what words say
 
@@ -186,8 +207,14 @@ ir_arguments rows = option_map (λ design. record { design = design; top = first
 
 abbrev pub verilog_arguments : List Row → Option (Verilog Text)
 verilog_arguments rows =
-    option_and_then (λ design. option_and_then (λ timing. option_and_then (λ depth. option_map (λ source. record { design = design; timing = timing; depth = depth; source = source })
-    (source_in (first_of (codes "from") rows))) (depth_in (first_of (codes "depth") rows))) (timing_arguments rows)) (first_of (codes "design") rows)
+    option_and_then (λ design. option_and_then (λ timing. option_and_then (λ depth. option_and_then (λ source. option_map (λ name. record { design = design; top = name; timing = timing; depth = depth; source = source })
+    (top_in source (first_of (codes "top") rows))) (source_in (first_of (codes "from") rows))) (depth_in (first_of (codes "depth") rows))) (timing_arguments rows)) (first_of (codes "design") rows)
+
+abbrev pub gen_arguments : List Row → Option Gen
+gen_arguments rows =
+    option_and_then (λ s. option_map (λ k. record { seed = s; procs = k })
+    (option_and_then (number_in 1 255) (first_of (codes "procs") rows)))
+    (option_and_then (number_in 0 2147483647) (first_of (codes "seed") rows))
 
 -- what the matches of a subcommand say
 abbrev pub subcommand_arguments : Text × List Row → Option (Request Text)
@@ -199,6 +226,7 @@ subcommand_arguments found =
     else if bytes_eq found.0 (codes "opt") then option_map request.Opt (opt_arguments found.1)
     else if bytes_eq found.0 (codes "verilog") then option_map request.Verilog (verilog_arguments found.1)
     else if bytes_eq found.0 (codes "ir") then option_map request.Ir (ir_arguments found.1)
+    else if bytes_eq found.0 (codes "gen") then option_map request.Gen (gen_arguments found.1)
     else None
 
 -- where `clap` finds no fault in the words, what the matches of their subcommand say

@@ -31,7 +31,7 @@ abbrev pub named_ir : Ir (Bor (List ℕ)) → Ir (List ℕ)
 named_ir said = record { design = said.design.now; top = option_copied said.top }
 
 abbrev pub named_verilog : Verilog (Bor (List ℕ)) → Verilog (List ℕ)
-named_verilog said = record { design = said.design.now; timing = said.timing; depth = said.depth; source = said.source }
+named_verilog said = record { design = said.design.now; top = option_copied said.top; timing = said.timing; depth = said.depth; source = said.source }
 
 abbrev pub named : Request (Bor (List ℕ)) → Request (List ℕ)
 named (request.Check said) = request.Check (named_check said)
@@ -41,3 +41,4 @@ named (request.Schedule said) = request.Schedule (named_schedule said)
 named (request.Opt said) = request.Opt (named_opt said)
 named (request.Verilog said) = request.Verilog (named_verilog said)
 named (request.Ir said) = request.Ir (named_ir said)
+named (request.Gen said) = request.Gen said

@@ -1,7 +1,7 @@
 ghost use Rattle.std.specs.Prelude.{◌≡◌, IfOk, false, codes};
 ghost use Rattle.clap.specs.Words.{App, Rule, app_of, new_app, rule_of, with_rule, with_subcommand as with_app};
 ghost use Rattle.clap.specs.declared.builder.Command.TheViews.{out-Command as fields_of};
-ghost use Rattle.cmd_line.specs.CommandLine.{activations, check, clock, depth, file, from, interval, ir, opt, option, plain_run, run, schedule, scheduling, sim, stages, top, verilog, workers, xls};
+ghost use Rattle.cmd_line.specs.CommandLine.{activations, check, clock, depth, file, from, generate, interval, ir, opt, option, plain_run, procs, run, schedule, scheduling, seed, sim, stages, top, verilog, workers, xls};
 
 use clap::{Arg, Command, value_parser};
 use std::alloc::{AllocError, Global};
@@ -17,7 +17,8 @@ pub fn command<'a>(alloc: Global) -> Result<Command<'a>, AllocError>
     let xls = with_subcommand(xls, schedule(alloc));
     let xls = with_subcommand(xls, opt(alloc));
     let xls = with_subcommand(xls, verilog(alloc));
-    with_subcommand(xls, ir(alloc))
+    let xls = with_subcommand(xls, ir(alloc));
+    with_subcommand(xls, generate(alloc))
 }
 
 /// What was built, with a subcommand more, where there was memory for both.
@@ -110,7 +111,8 @@ fn verilog<'a>(alloc: Global) -> Result<Command<'a>, AllocError>
 {
     let built = scheduling(alloc, "verilog");
     let built = with_arg(built, depth(alloc));
-    with_arg(built, from(alloc))
+    let built = with_arg(built, from(alloc));
+    with_arg(built, top(alloc))
 }
 
 /// A subcommand whose words name a file and say what its schedules must keep to.
@@ -139,6 +141,15 @@ fn ir<'a>(alloc: Global) -> Result<Command<'a>, AllocError>
 {
     let built = of_design(alloc, "ir");
     with_arg(built, top(alloc))
+}
+
+fn generate<'a>(alloc: Global) -> Result<Command<'a>, AllocError>
+    ensures app { IfOk result (λ command. app_of command ≡ generate) }
+    ensures local { IfOk result (λ command. (fields_of command).has_globals ≡ false) }
+{
+    let built = Ok(Command::new(alloc, "gen"));
+    let built = with_arg(built, seed(alloc));
+    with_arg(built, procs(alloc))
 }
 
 /// A subcommand whose first word is the design's file.
@@ -222,6 +233,28 @@ fn interval<'a>(alloc: Global) -> Arg<'a>
     ensures local { result.global ≡ false }
 {
     option(alloc, "ii").value_parser(value_parser!(u32).range(1..=64))
+}
+
+/// `--seed S`
+fn seed<'a>(alloc: Global) -> Arg<'a>
+    ensures rule { rule_of result ≡ seed }
+    ensures local { result.global ≡ false }
+{
+    Arg::new(alloc, "seed")
+        .long("seed")
+        .required(true)
+        .value_parser(value_parser!(u32).range(0..=2_147_483_647))
+}
+
+/// `--procs K`
+fn procs<'a>(alloc: Global) -> Arg<'a>
+    ensures rule { rule_of result ≡ procs }
+    ensures local { result.global ≡ false }
+{
+    Arg::new(alloc, "procs")
+        .long("procs")
+        .required(true)
+        .value_parser(value_parser!(u32).range(1..=255))
 }
 
 /// `--activations N`

@@ -12,5 +12,5 @@ mod number;
 mod request;
 mod words;
 
-pub use request::{Check, How, Ir, Opt, Request, Run, Schedule, Sim, Source, Timing, Verilog};
+pub use request::{Check, Gen, How, Ir, Opt, Request, Run, Schedule, Sim, Source, Timing, Verilog};
 pub use words::read_words;

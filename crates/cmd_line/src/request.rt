@@ -8,6 +8,7 @@ pub enum Request<N> {
     Opt(Opt<N>),
     Verilog(Verilog<N>),
     Ir(Ir<N>),
+    Gen(Gen),
 }
 
 /// `check FILE [--top NAME]`
@@ -81,14 +82,25 @@ pub struct Opt<N> {
     pub source: Source,
 }
 
-/// `verilog FILE --clock PS [--stages N] [--ii N] [--depth D] [--from F]`
+/// `verilog FILE --clock PS [--stages N] [--ii N] [--depth D] [--from F] [--top NAME]`
 #[derive(Clone, Copy)]
 pub struct Verilog<N> {
     pub design: N,
+    /// The name of the top proc, which is the last one by default; an IR text names its top itself.
+    pub top: Option<N>,
     pub timing: Timing,
     /// What replaces the depth of each inner channel: 1 to 4,096.
     pub depth: Option<u32>,
     pub source: Source,
+}
+
+/// `gen --seed S --procs K`
+#[derive(Clone, Copy, PartialEq, Eq)]
+pub struct Gen {
+    /// What the design is made from: 0 to 2,147,483,647.
+    pub seed: u32,
+    /// How many procs stand in the chain below the top: 1 to 255.
+    pub procs: u32,
 }
 
 /// What a pipeline must keep to.

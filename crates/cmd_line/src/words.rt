@@ -1,13 +1,15 @@
 ghost use Rattle.std.specs.Prelude.{◌≡◌, ◌≤◌, IfOk, IfSome, Option, map, option_map, option_and_then, string_bytes};
 ghost use Rattle.std.specs.Option.{option_copied};
 ghost use Rattle.clap.specs.Words.{first_of, found_of, rows_of, subcommand_rows_of};
-ghost use Rattle.cmd_line.specs.CommandLine.{depth_in, most_in, arguments_of, check_arguments, ir_arguments, opt_arguments, run_arguments, schedule_arguments, sim_arguments, subcommand_arguments, how_arguments, timing_arguments, top_in, source_in, verilog_arguments, workers_in};
+ghost use Rattle.cmd_line.specs.CommandLine.{depth_in, most_in, arguments_of, check_arguments, gen_arguments, ir_arguments, opt_arguments, run_arguments, schedule_arguments, sim_arguments, subcommand_arguments, how_arguments, timing_arguments, top_in, source_in, verilog_arguments, workers_in};
 ghost use Rattle.cmd_line.specs.Named.{named, named_check, named_ir, named_opt, named_run, named_schedule, named_sim, named_verilog};
-ghost use Rattle.cmd_line.specs.Bounds.{IsInBounds, IsWorkerCount};
+ghost use Rattle.cmd_line.specs.Bounds.{IsGenInBounds, IsInBounds, IsWorkerCount};
 
 use crate::command::command;
 use crate::number::read_number;
-use crate::request::{Check, How, Ir, Opt, Request, Run, Schedule, Sim, Source, Timing, Verilog};
+use crate::request::{
+    Check, Gen, How, Ir, Opt, Request, Run, Schedule, Sim, Source, Timing, Verilog,
+};
 use clap::ArgMatches;
 use clap::error::ErrorKind;
 use std::alloc::{AllocError, Global};
@@ -41,6 +43,7 @@ fn request<'a>(matches: &ArgMatches<'a>) -> Option<Request<&'a str>>
         Some(("opt", matches)) => Some(Request::Opt(opt(matches)?)),
         Some(("verilog", matches)) => Some(Request::Verilog(verilog(matches)?)),
         Some(("ir", matches)) => Some(Request::Ir(ir(matches)?)),
+        Some(("gen", matches)) => Some(Request::Gen(generate(matches)?)),
         _ => None,
     }
 }
@@ -234,13 +237,36 @@ fn verilog<'a>(matches: &ArgMatches<'a>) -> Option<Verilog<&'a str>>
     let Some(depth) = depth(text(matches, "depth")) else {
         return None;
     };
-    match source(text(matches, "from")) {
-        Some(source) => Some(Verilog {
+    let Some(source) = source(text(matches, "from")) else {
+        return None;
+    };
+    match top_of(source, text(matches, "top")) {
+        Some(top) => Some(Verilog {
             design,
+            top,
             timing,
             depth,
             source,
         }),
+        None => None,
+    }
+}
+
+fn generate(matches: &ArgMatches<'_>) -> Option<Gen>
+    ensures said { result ≡ gen_arguments (rows_of (found_of matches.now)) }
+    ensures bounds { IfSome result IsGenInBounds }
+{
+    let Some(number) = text(matches, "seed") else {
+        return None;
+    };
+    let Some(seed) = read_number(number, 0, 2_147_483_647) else {
+        return None;
+    };
+    let Some(number) = text(matches, "procs") else {
+        return None;
+    };
+    match read_number(number, 1, 255) {
+        Some(procs) => Some(Gen { seed, procs }),
         None => None,
     }
 }

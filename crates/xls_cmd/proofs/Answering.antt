@@ -11,7 +11,7 @@ use Rattle.xls_cmd.specs.Shared.Fault.{Fault}
 use Rattle.xls_cmd.specs.Shared.Step.{IsOne, ExpectedBy}
 use Rattle.cmd_line.specs.CommandLine.{arguments_of}
 use Rattle.cmd_line.specs.declared.request.Request.{Request}
-use Rattle.cmd_line.specs.declared.request.Request.TheVariants.{Check, Run, Sim, Schedule, Opt, Verilog, Ir as SaysIr}
+use Rattle.cmd_line.specs.declared.request.Request.TheVariants.{Check, Run, Sim, Schedule, Opt, Verilog, Gen, Ir as SaysIr}
 use Rattle.cmd_line.specs.declared.request.Source.{Source}
 use Rattle.cmd_line.specs.declared.request.Source.TheVariants.{Dslx, Ir}
 use Rattle.xls_cmd.specs.Design.Commands as design
@@ -30,7 +30,7 @@ use Rattle.cmd_line.specs.declared.request.Opt.{Opt as SaidOpt}
 use Rattle.cmd_line.specs.declared.request.Ir.{Ir as SaidIr}
 use Rattle.cmd_line.specs.declared.request.Sim.{Sim as SaidSim}
 use Rattle.cmd_line.specs.declared.request.Verilog.{Verilog as SaidVerilog}
-use Rattle.xls_cmd.specs.Answer.{by_workers, expected, expected_for, expected_of, expected_of_run, expected_of_verilog, expected_of_verilog_by, files_of, files_of_verilog, files_of_verilog_by, is_exact, is_exact_by, is_exact_for, is_read_by, is_settled, is_settled_for, named_files, named_for, run_by, status_for}
+use Rattle.xls_cmd.specs.Answer.{by_workers, expected, expected_for, expected_of, expected_of_run, files_of, is_exact, is_exact_for, is_read_by, is_settled, is_settled_for, named_files, named_for, run_by, status_for}
 
 -- each command gives one thing, or answers that may differ in their text alone
 pub record TheLaws : Type 0 where
@@ -40,7 +40,7 @@ pub record TheLaws : Type 0 where
   pub sim : (holds : Contents) (arguments : SaidSim (List ℕ)) → IsOne (simulation.sim holds arguments)
   pub schedule_ir : (holds : Contents) (arguments : SaidSchedule (List ℕ)) → arguments.source ≡ Ir → IsOne (schedules.schedule holds arguments)
   pub opt : (holds : Contents) (arguments : SaidOpt (List ℕ)) → Agrees (optimising.opt holds arguments)
-  pub verilog_ir : (holds : Contents) (arguments : SaidVerilog (List ℕ)) → Agrees (printing.verilog holds arguments)
+  pub verilog_ir : (holds : Contents) (arguments : SaidVerilog (List ℕ)) → arguments.source ≡ Ir → Agrees (printing.verilog holds arguments)
   pub ir : (holds : Contents) (arguments : SaidIr (List ℕ)) → Agrees (lowered.ir_of_design holds arguments)
 
 run_is_one : TheLaws → (source : Source) (arguments : SaidRun (List ℕ)) (holds : Contents) → IsOne (run_by source holds arguments)
@@ -57,18 +57,15 @@ read_is : (source : Source) → is_read_by source ≡ true → source ≡ Ir
 read_is Dslx h = absurd (cc)
 read_is Ir h = refl
 
-verilog_is_one : (source : Source) (arguments : SaidVerilog (List ℕ)) (holds : Contents) → is_exact_by source ≡ true → IsOne (expected_of_verilog_by source arguments (Some holds))
-verilog_is_one Dslx arguments holds exact a b is also = is ∙ sym also
-verilog_is_one Ir arguments holds exact a b is also = absurd (cc)
-
 expected_of_is_one : TheLaws → (arguments : Request (List ℕ)) (holds : Contents) → is_exact_for (Some arguments) ≡ true → IsOne (expected_of arguments (Some holds))
 expected_of_is_one laws (Check arguments) holds exact a b is also = laws.check holds arguments a b is.1 also.1
 expected_of_is_one laws (Run arguments) holds exact a b is also = run_is_one laws arguments.how.source arguments holds a b is.1 also.1
 expected_of_is_one laws (Sim arguments) holds exact a b is also = laws.sim holds arguments a b is.1 also.1
 expected_of_is_one laws (Schedule arguments) holds exact a b is also = laws.schedule_ir holds arguments (read_is arguments.source exact) a b is.1 also.1
 expected_of_is_one laws (Opt arguments) holds exact a b is also = absurd (cc)
-expected_of_is_one laws (Verilog arguments) holds exact a b is also = verilog_is_one arguments.source arguments holds exact a b is also
+expected_of_is_one laws (Verilog arguments) holds exact a b is also = absurd (cc)
 expected_of_is_one laws (SaysIr arguments) holds exact a b is also = absurd (cc)
+expected_of_is_one laws (Gen arguments) holds exact a b is also = is ∙ sym also
 
 expected_for_is_one : TheLaws → (arguments : Option (Request (List ℕ))) (holds : Contents) → is_exact_for arguments ≡ true → IsOne (expected_for arguments (Some holds))
 expected_for_is_one laws None holds exact a b is also = is ∙ sym also
@@ -79,10 +76,6 @@ expected_is_one laws words holds exact = expected_for_is_one laws (arguments_of 
 
 -- ---- what is expected agrees
 
-verilog_agrees : TheLaws → (source : Source) (arguments : SaidVerilog (List ℕ)) (holds : Contents) → Agrees (expected_of_verilog_by source arguments (Some holds))
-verilog_agrees laws Dslx arguments holds a b is also = one_agrees (expected_of_verilog_by Dslx arguments (Some holds)) (λ a b is also. is ∙ sym also) a b is also
-verilog_agrees laws Ir arguments holds a b is also = laws.verilog_ir holds arguments a b is.1 also.1
-
 expected_for_agrees : TheLaws → (arguments : Option (Request (List ℕ))) (holds : Contents) → is_settled_for arguments ≡ true → Agrees (expected_for arguments (Some holds))
 expected_for_agrees laws None holds settled = one_agrees (expected_for None (Some holds)) (expected_for_is_one laws None holds refl)
 expected_for_agrees laws (Some (Check arguments)) holds settled = one_agrees (expected_of (Check arguments) (Some holds)) (expected_of_is_one laws (Check arguments) holds refl)
@@ -90,8 +83,9 @@ expected_for_agrees laws (Some (Run arguments)) holds settled = one_agrees (expe
 expected_for_agrees laws (Some (Sim arguments)) holds settled = one_agrees (expected_of (Sim arguments) (Some holds)) (expected_of_is_one laws (Sim arguments) holds refl)
 expected_for_agrees laws (Some (Schedule arguments)) holds settled = one_agrees (expected_of (Schedule arguments) (Some holds)) (expected_of_is_one laws (Schedule arguments) holds settled)
 expected_for_agrees laws (Some (Opt arguments)) holds settled = λ a b is also. laws.opt holds arguments a b is.1 also.1
-expected_for_agrees laws (Some (Verilog arguments)) holds settled = verilog_agrees laws arguments.source arguments holds
+expected_for_agrees laws (Some (Verilog arguments)) holds settled = λ a b is also. laws.verilog_ir holds arguments (read_is arguments.source settled) a b is.1 also.1
 expected_for_agrees laws (Some (SaysIr arguments)) holds settled = λ a b is also. laws.ir holds arguments a b is.1 also.1
+expected_for_agrees laws (Some (Gen arguments)) holds settled = one_agrees (expected_of (Gen arguments) (Some holds)) (expected_of_is_one laws (Gen arguments) holds refl)
 
 pub expected_agrees : TheLaws → (words : List (List ℕ)) (holds : Contents) → is_settled words ≡ true → Agrees (expected words (Some holds))
 expected_agrees laws words holds settled = expected_for_agrees laws (arguments_of words) holds settled
@@ -118,11 +112,6 @@ module _ {V : Type 0} (items : V → List ℕ) (words : List (List ℕ)) (known_
   -- a run of what its file is written in
   pub done_by_source : (source : Source) (arguments : SaidRun (List ℕ)) → arguments.how.source ≡ source → IsDone items (ExpectedBy known_contents (λ holds. run_by source holds arguments)) (design.run_files arguments) files given → IsDone items (expected_of_run arguments known_contents) (design.run_files arguments) files given
   done_by_source source arguments is done = subst (λ s. IsDone items (ExpectedBy known_contents (λ holds. run_by s holds arguments)) (design.run_files arguments) files given) (sym is) done
-
-  -- the Verilog of what it may be made of
-  pub verilog_by_source : (source : Source) (arguments : SaidVerilog (List ℕ)) → source ≡ arguments.source → IsDone items (expected_of_verilog_by source arguments known_contents) (files_of_verilog_by source arguments) files given →
-      IsDone items (expected_of_verilog arguments known_contents) (files_of_verilog arguments) files given
-  verilog_by_source source arguments is done = subst (λ (s : Source). IsDone items (expected_of_verilog_by s arguments known_contents) (files_of_verilog_by s arguments) files given) is done
 
 -- nothing was loaded
 pub nothing_asked : (names : List (List ℕ)) → names ≡ names ++ []

@@ -8,7 +8,6 @@ use Rattle.cmd_line.specs.CommandLine.{arguments_of}
 use Rattle.cmd_line.specs.declared.request.Request.{Request}
 use Rattle.cmd_line.specs.declared.request.Request.TheVariants as request
 use Rattle.cmd_line.specs.declared.request.Run.{Run}
-use Rattle.cmd_line.specs.declared.request.Verilog.{Verilog}
 use Rattle.cmd_line.specs.declared.request.Source.{Source}
 use Rattle.cmd_line.specs.declared.request.Source.TheVariants.{Dslx, Ir}
 use Rattle.xls_cmd.specs.Design.Commands as design
@@ -31,14 +30,6 @@ by_workers count arguments = record arguments { how = record arguments.how { wor
 abbrev pub expected_of_run : Run (List ℕ) → Option Contents → Step (List ℕ)
 expected_of_run arguments known_contents given = ExpectedBy known_contents (λ holds. run_by arguments.how.source holds arguments) given
 
--- the Verilog of designs is to come
-abbrev pub expected_of_verilog_by : Source → Verilog (List ℕ) → Option Contents → Step (List ℕ)
-expected_of_verilog_by Dslx arguments known_contents given = given ≡ Err Usage
-expected_of_verilog_by Ir arguments known_contents given = ExpectedBy known_contents (λ holds. printing.verilog holds arguments) given
-
-abbrev pub expected_of_verilog : Verilog (List ℕ) → Option Contents → Step (List ℕ)
-expected_of_verilog arguments known_contents = expected_of_verilog_by arguments.source arguments known_contents
-
 -- What is expected for what the words of each command say: this is the one place that lists them. A command that is to come refuses
 -- its words.
 abbrev pub expected_of : Request (List ℕ) → Option Contents → Step (List ℕ)
@@ -48,14 +39,8 @@ expected_of (request.Sim arguments) known_contents given = ExpectedBy known_cont
 expected_of (request.Schedule arguments) known_contents given = ExpectedBy known_contents (λ holds. schedules.schedule holds arguments) given
 expected_of (request.Opt arguments) known_contents given = ExpectedBy known_contents (λ holds. optimising.opt holds arguments) given
 expected_of (request.Ir arguments) known_contents given = ExpectedBy known_contents (λ holds. lowered.ir_of_design holds arguments) given
-expected_of (request.Verilog arguments) known_contents given = expected_of_verilog arguments known_contents given
-
-abbrev pub files_of_verilog_by : Source → Verilog (List ℕ) → List (List ℕ)
-files_of_verilog_by Dslx arguments = []
-files_of_verilog_by Ir arguments = printing.verilog_files arguments
-
-abbrev pub files_of_verilog : Verilog (List ℕ) → List (List ℕ)
-files_of_verilog arguments = files_of_verilog_by arguments.source arguments
+expected_of (request.Verilog arguments) known_contents given = ExpectedBy known_contents (λ holds. printing.verilog holds arguments) given
+expected_of (request.Gen arguments) known_contents given = given ≡ Err Usage
 
 -- the files that the words of each name, in the order in which they are loaded
 abbrev pub files_of : Request (List ℕ) → List (List ℕ)
@@ -65,7 +50,8 @@ files_of (request.Sim arguments) = simulation.sim_files arguments
 files_of (request.Schedule arguments) = schedules.schedule_files arguments
 files_of (request.Opt arguments) = optimising.opt_files arguments
 files_of (request.Ir arguments) = lowered.ir_files arguments
-files_of (request.Verilog arguments) = files_of_verilog arguments
+files_of (request.Verilog arguments) = printing.verilog_files arguments
+files_of (request.Gen arguments) = []
 
 abbrev pub expected_for : Option (Request (List ℕ)) → Option Contents → Step (List ℕ)
 expected_for None known_contents given = given ≡ Err Usage
@@ -81,15 +67,11 @@ abbrev pub is_read_by : Source → Bool
 is_read_by Dslx = false
 is_read_by Ir = true
 
-abbrev pub is_exact_by : Source → Bool
-is_exact_by Dslx = true
-is_exact_by Ir = false
-
 abbrev pub is_exact_for : Option (Request (List ℕ)) → Bool
 is_exact_for (Some (request.Ir arguments)) = false
 is_exact_for (Some (request.Schedule arguments)) = is_read_by arguments.source
 is_exact_for (Some (request.Opt arguments)) = false
-is_exact_for (Some (request.Verilog arguments)) = is_exact_by arguments.source
+is_exact_for (Some (request.Verilog arguments)) = false
 is_exact_for _ = true
 
 -- words for which one thing is expected: all but those for a package or a module, of which several are as good, and for schedules of a design's
@@ -99,10 +81,11 @@ is_exact words = is_exact_for (arguments_of words)
 
 abbrev pub is_settled_for : Option (Request (List ℕ)) → Bool
 is_settled_for (Some (request.Schedule arguments)) = is_read_by arguments.source
+is_settled_for (Some (request.Verilog arguments)) = is_read_by arguments.source
 is_settled_for _ = true
 
 -- words for which it is settled whether a text is expected, and else the cause: all but those for schedules of a design's package, which may be
--- there for one package and not for another
+-- there for one package and not for another, and for its module
 abbrev pub is_settled : List (List ℕ) → Bool
 is_settled words = is_settled_for (arguments_of words)
 

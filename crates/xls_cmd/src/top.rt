@@ -4,11 +4,11 @@ ghost use Rattle.xls_cmd.specs.Shared.Answered.{IsAnswered};
 ghost use Rattle.xls_cmd.specs.Shared.Done.{IsDone};
 ghost use Rattle.xls_cmd.specs.Shared.Events.{file_events, sink_events};
 ghost use Rattle.xls_cmd.specs.Shared.Fault.{Fault as Cause};
-ghost use Rattle.xls_cmd.specs.Answer.{expected, expected_of, expected_of_run, expected_of_verilog, files_of, files_of_verilog, is_settled, named_files, status_for};
+ghost use Rattle.xls_cmd.specs.Answer.{expected, expected_of, expected_of_run, files_of, is_settled, named_files, status_for};
 ghost use Rattle.xls_cmd.specs.Design.Commands.{run_files};
 ghost use Rattle.xls_cmd.specs.Workers.{IsLeftToWorkers, has_workers, is_by_workers, wants_workers};
 ghost use Rattle.cmd_line.specs.Bounds.{IsInBounds, IsWorkerCount};
-ghost use Rattle.cmd_line.specs.Named.{named, named_run, named_verilog};
+ghost use Rattle.cmd_line.specs.Named.{named, named_run};
 
 use crate::design::{check_design, run_design, run_design_alone};
 use crate::ir::{run_package, run_package_alone};
@@ -18,8 +18,8 @@ use crate::opt::opt_file;
 use crate::schedule::schedule_file;
 use crate::shared::{Fault, Refusal, respond};
 use crate::sim::sim_design;
-use crate::verilog::verilog_ir;
-use cmd_line::{Request, Run, Source, Verilog, read_words};
+use crate::verilog::verilog_file;
+use cmd_line::{Request, Run, Source, read_words};
 use std::alloc::Global;
 use std::sync::Wait;
 use std::thread::Threads;
@@ -141,8 +141,9 @@ fn requested_alone<'a, F: Files>(
         Request::Sim(arguments) => Some(sim_design(alloc, files, arguments)),
         Request::Schedule(arguments) => Some(schedule_file(alloc, files, arguments)),
         Request::Opt(arguments) => Some(opt_file(alloc, files, arguments)),
-        Request::Verilog(arguments) => Some(verilog(alloc, files, arguments)),
+        Request::Verilog(arguments) => Some(verilog_file(alloc, files, arguments)),
         Request::Ir(arguments) => Some(ir_design(alloc, files, arguments)),
+        Request::Gen(_) => Some(Err(Refusal::Fault(Fault::Usage))),
     }
 }
 
@@ -215,8 +216,9 @@ fn requested<'a, R: Threads + Wait + Sync, F: Files, G: Gate + Sync>(
         Request::Sim(arguments) => sim_design(alloc, files, arguments),
         Request::Schedule(arguments) => schedule_file(alloc, files, arguments),
         Request::Opt(arguments) => opt_file(alloc, files, arguments),
-        Request::Verilog(arguments) => verilog(alloc, files, arguments),
+        Request::Verilog(arguments) => verilog_file(alloc, files, arguments),
         Request::Ir(arguments) => ir_design(alloc, files, arguments),
+        Request::Gen(_) => Err(Refusal::Fault(Fault::Usage)),
     }
 }
 
@@ -235,21 +237,5 @@ fn run<'a, R: Threads + Wait + Sync, F: Files, G: Gate + Sync>(
     match arguments.how.source {
         Source::Dslx => run_design(rt, alloc, files, arguments, gate),
         Source::Ir => run_package(rt, alloc, files, arguments, gate),
-    }
-}
-
-/// The Verilog of an IR text.
-fn verilog<'a, F: Files>(
-    alloc: Global,
-    files: &mut F,
-    arguments: Verilog<&'a str>,
-) -> Result<Vec<u8>, Refusal<'a>>
-    requires { 1 ≤ arguments.timing.stages }
-    ensures { IsDone (λ text. text.items) (expected_of_verilog (named_verilog arguments.entry) (F.told files.old)) (files_of_verilog (named_verilog arguments.entry))
-        (file_events F.asked F.faults F.taken files.old files.new) result }
-{
-    match arguments.source {
-        Source::Dslx => Err(Refusal::Fault(Fault::Usage)),
-        Source::Ir => verilog_ir(alloc, files, arguments),
     }
 }

@@ -30,7 +30,7 @@ pub record TheLaws : Type 0 where
   pub first : (procs : List Proc) (demands : Demands) (e f : Infeasible) → IsFirstInfeasible procs demands e → IsFirstInfeasible procs demands f → (e.cause ≡ OutOfMemory → ⊥) → (f.cause ≡ OutOfMemory → ⊥) → e ≡ f
   pub either : (procs : List Proc) (demands : Demands) (schedules : List Schedule) (e : Infeasible) → AreSchedules procs demands schedules → IsFirstInfeasible procs demands e → e.cause ≡ OutOfMemory
 
-pub package_is_one : TheLaws → (name bytes : List ℕ) → IsOne (ReadsPackage name bytes)
+package_is_one : TheLaws → (name bytes : List ℕ) → IsOne (ReadsPackage name bytes)
 package_is_one laws name bytes =
     then_is_one (Gives (text_of name bytes)) (λ text. OfText name (GivesPackage text)) (gives_is_one (text_of name bytes)) (λ text. of_text_is_one name (GivesPackage text) (laws.read text))
 
@@ -45,7 +45,7 @@ texts_are_one : TheLaws → (ir : Package) (demands : Demands) → IsOne (GivesS
 texts_are_one laws ir demands =
     then_is_one (HasSchedules ir demands) (λ schedules. Gives (Ok (schedule_text ir schedules))) (schedules_are_one laws ir demands) (λ schedules. gives_is_one (Ok (schedule_text ir schedules)))
 
-scheduled_is_one : TheLaws → (source : Source) (name : List ℕ) (top : Option (List ℕ)) (bytes : List ℕ) → source ≡ Ir → IsOne (GivesScheduledBy source name top bytes)
+pub scheduled_is_one : TheLaws → (source : Source) (name : List ℕ) (top : Option (List ℕ)) (bytes : List ℕ) → source ≡ Ir → IsOne (GivesScheduledBy source name top bytes)
 scheduled_is_one laws Dslx name top bytes is = absurd (cc)
 scheduled_is_one laws Ir name top bytes is = package_is_one laws name bytes
 

@@ -19,11 +19,12 @@ use Rattle.pipe_schedule.specs.Packages.{AreSchedules}
 use Rattle.block_verilog.specs.declared.build.BuildError.{BuildError}
 use Rattle.block_verilog.specs.declared.build.BuildError.TheVariants as build
 use Rattle.block_verilog.specs.Modules.{HaveSlots, IsFirstTooDeep, NoneTooDeep, is_deep, limit_of}
+use Rattle.cmd_line.specs.declared.request.Source.TheVariants.{Ir}
 use Rattle.cmd_line.specs.declared.request.Verilog.{Verilog}
 use Rattle.xls_cmd.specs.declared.shared.refusal.Refusal.{Refusal}
 use Rattle.xls_cmd.specs.declared.shared.fault.Fault.TheVariants.{Text}
 use Rattle.xls_cmd.specs.Design.Written.{depths_by}
-use Rattle.xls_cmd.specs.Ir.Commands.{ReadsPackage}
+use Rattle.xls_cmd.specs.Lowered.Commands.{GivesScheduledBy}
 use Rattle.xls_cmd.specs.Schedule.Commands.{HasSchedules, fits, demands_of}
 use Rattle.xls_cmd.specs.Shared.Agrees.{Agrees}
 use Rattle.xls_cmd.specs.Shared.Done.{StopsBy, text_refusal}
@@ -32,7 +33,7 @@ use Rattle.xls_cmd.specs.Shared.Loads.{Loads}
 use Rattle.xls_cmd.specs.Shared.Step.{goes_on}
 use Rattle.xls_cmd.specs.Verilog.Commands.{GivesVerilog, PrintsModule, prints, too_deep, verilog, verilog_loaded}
 use Rattle.xls_cmd.proofs.Lemmas.Shared.{loads_is_one, stops_in_first, stops_in_next, then_agrees}
-use Rattle.xls_cmd.proofs.OnSchedule.Steps.{TheLaws, package_is_one, schedules_are_one}
+use Rattle.xls_cmd.proofs.OnSchedule.Steps.{TheLaws, scheduled_is_one, schedules_are_one}
 
 -- ---- depths
 
@@ -116,7 +117,8 @@ package_agrees laws arguments ir =
     then_agrees (HasSchedules ir (demands_of arguments.timing)) (printed_by arguments ir) (schedules_are_one laws ir (demands_of arguments.timing))
     (λ schedules. prints_agree arguments.design ir (depths_by arguments.depth (network_of ir)) schedules)
 
-pub verilog_agrees : TheLaws → (holds : Contents) (arguments : Verilog (List ℕ)) → Agrees (verilog holds arguments)
-verilog_agrees laws holds arguments =
+pub verilog_agrees : TheLaws → (holds : Contents) (arguments : Verilog (List ℕ)) → arguments.source ≡ Ir → Agrees (verilog holds arguments)
+verilog_agrees laws holds arguments is =
     then_agrees (Loads holds arguments.design) (λ bytes. verilog_loaded arguments bytes) (loads_is_one holds arguments.design)
-    (λ bytes. then_agrees (ReadsPackage arguments.design bytes) (λ ir. GivesVerilog arguments ir) (package_is_one laws arguments.design bytes) (package_agrees laws arguments))
+    (λ bytes. then_agrees (GivesScheduledBy arguments.source arguments.design arguments.top bytes) (λ ir. GivesVerilog arguments ir)
+    (scheduled_is_one laws arguments.source arguments.design arguments.top bytes is) (package_agrees laws arguments))

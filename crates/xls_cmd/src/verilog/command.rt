@@ -6,7 +6,7 @@ ghost use Rattle.xls_cmd.specs.Shared.Step.{ExpectedBy};
 ghost use Rattle.cmd_line.specs.Named.{named_verilog};
 ghost use Rattle.xls_cmd.specs.Verilog.Commands.{GivesVerilog, verilog, verilog_files, verilog_loaded};
 
-use crate::ir::read_package;
+use crate::lowered::package_to_schedule;
 use crate::schedule::{demands_of, schedules_of};
 use crate::shared::{Refusal, load};
 use crate::verilog::printing::{package_depths, printed};
@@ -15,8 +15,8 @@ use ir_tree::Package;
 use std::alloc::Global;
 use xb_io::Files;
 
-/// `verilog FILE --clock PS [--stages N] [--ii N] [--depth D] --from ir`
-pub fn verilog_ir<'a, F: Files>(
+/// `verilog FILE --clock PS [--stages N] [--ii N] [--depth D] [--from F] [--top NAME]`
+pub fn verilog_file<'a, F: Files>(
     alloc: Global,
     files: &mut F,
     arguments: Verilog<&'a str>,
@@ -41,7 +41,13 @@ fn verilog_loaded<'a>(
     ensures gives { IfOk result (λ text. verilog_loaded (named_verilog arguments.now) bytes.now (Ok text.items)) }
     ensures refused { IfErr result (StopsBy (verilog_loaded (named_verilog arguments.now) bytes.now)) }
 {
-    let ir = read_package(alloc, arguments.design, bytes)?;
+    let ir = package_to_schedule(
+        alloc,
+        arguments.source,
+        arguments.design,
+        arguments.top,
+        bytes,
+    )?;
     verilog_of(alloc, arguments, &ir)
 }
 

@@ -3,7 +3,7 @@ use Rattle.std.specs.Prelude.{codes}
 use Rattle.clap.specs.Words.{app_of, new_app, with_subcommand}
 use Rattle.clap.specs.Simple.{app_of_fields}
 use Rattle.cmd_line.proofs.command.command.Goals as goal
-use Rattle.cmd_line.specs.CommandLine.{xls, check, run, sim, schedule, opt, verilog, ir, bare}
+use Rattle.cmd_line.specs.CommandLine.{xls, check, run, sim, schedule, opt, verilog, ir, generate, bare}
 
 pub returns : goal.returns
 unfolding xls
@@ -15,4 +15,5 @@ returns c =
     let fourth = c.with_subcommand-xls-4.ensures _ schedule third c.schedule.ensures.app c.schedule.ensures.local in
     let fifth = c.with_subcommand-xls-5.ensures _ opt fourth c.opt.ensures.app c.opt.ensures.local in
     let sixth = c.with_subcommand-xls-6.ensures _ verilog fifth c.verilog.ensures.app c.verilog.ensures.local in
-    c.with_subcommand.ensures _ ir sixth c.ir.ensures.app c.ir.ensures.local
+    let seventh = c.with_subcommand-xls-7.ensures _ ir sixth c.ir.ensures.app c.ir.ensures.local in
+    c.with_subcommand.ensures _ generate seventh c.generate.ensures.app c.generate.ensures.local

@@ -5,7 +5,7 @@ use Rattle.xls_cmd.specs.Shared.Step.{ExpectedBy}
 use Rattle.cmd_line.specs.Named.{named_verilog}
 use Rattle.xls_cmd.proofs.Lemmas.Shared.{all_handed, done_at_load, done_after_load, done_behind_loads}
 use Rattle.xls_cmd.specs.Verilog.Commands.{verilog, verilog_files, verilog_loaded}
-use Rattle.xls_cmd.proofs.verilog.command.verilog_ir.Goals as goal
+use Rattle.xls_cmd.proofs.verilog.command.verilog_file.Goals as goal
 
 pub returns-in_err-design : goal.returns-in_err-design
 returns-in_err-design g c =
