@@ -8,7 +8,9 @@ use Rattle.xls_cmd.specs.declared.shared.refusal.Refusal.{Refusal}
 use Rattle.xls_cmd.specs.Shared.Done.{IsDone, GivesExpected}
 use Rattle.xls_cmd.specs.Shared.Events.{FileEvents, SinkEvents}
 use Rattle.xls_cmd.specs.Shared.Fault.{Fault}
-use Rattle.xls_cmd.specs.Shared.Step.{IsOne, ExpectedBy}
+use Rattle.xls_cmd.specs.Shared.Loads.{Loads}
+use Rattle.xls_cmd.specs.Shared.Step.{IsOne, ExpectedBy, Then}
+use Rattle.xls_cmd.specs.Run.Commands.{run_by, run_texts}
 use Rattle.cmd_line.specs.CommandLine.{arguments_of}
 use Rattle.cmd_line.specs.declared.request.Request.{Request}
 use Rattle.cmd_line.specs.declared.request.Request.TheVariants.{Check, Run, Sim, Schedule, Opt, Verilog, Gen, Ir as SaysIr}
@@ -22,7 +24,7 @@ use Rattle.xls_cmd.specs.Opt.Commands as optimising
 use Rattle.xls_cmd.specs.Verilog.Commands as printing
 use Rattle.xls_cmd.specs.Shared.Agrees.{AreAlike, Agrees}
 use Rattle.xls_cmd.specs.Sim.Simulation as simulation
-use Rattle.xls_cmd.proofs.Lemmas.Shared.{one_agrees}
+use Rattle.xls_cmd.proofs.Lemmas.Shared.{loads_is_one, one_agrees, then_is_one}
 use Rattle.cmd_line.specs.declared.request.Check.{Check as SaidCheck}
 use Rattle.cmd_line.specs.declared.request.Run.{Run as SaidRun}
 use Rattle.cmd_line.specs.declared.request.Schedule.{Schedule as SaidSchedule}
@@ -30,22 +32,27 @@ use Rattle.cmd_line.specs.declared.request.Opt.{Opt as SaidOpt}
 use Rattle.cmd_line.specs.declared.request.Ir.{Ir as SaidIr}
 use Rattle.cmd_line.specs.declared.request.Sim.{Sim as SaidSim}
 use Rattle.cmd_line.specs.declared.request.Verilog.{Verilog as SaidVerilog}
-use Rattle.xls_cmd.specs.Answer.{by_workers, expected, expected_for, expected_of, expected_of_run, files_of, is_exact, is_exact_for, is_read_by, is_settled, is_settled_for, named_files, named_for, run_by, status_for}
+use Rattle.xls_cmd.specs.Answer.{by_workers, expected, expected_for, expected_of, files_of, is_exact, is_exact_for, is_read_by, is_settled, is_settled_for, named_files, named_for, status_for}
 
 -- each command gives one thing, or answers that may differ in their text alone
 pub record TheLaws : Type 0 where
   pub check : (holds : Contents) (arguments : SaidCheck (List ℕ)) → IsOne (design.check holds arguments)
-  pub run : (holds : Contents) (arguments : SaidRun (List ℕ)) → IsOne (design.run holds arguments)
-  pub run_ir : (holds : Contents) (arguments : SaidRun (List ℕ)) → IsOne (ir.run holds arguments)
+  pub run : (arguments : SaidRun (List ℕ)) (file inputs : List ℕ) → IsOne (design.run_texts arguments file inputs)
+  pub run_ir : (arguments : SaidRun (List ℕ)) (file inputs : List ℕ) → IsOne (ir.run_texts arguments file inputs)
   pub sim : (holds : Contents) (arguments : SaidSim (List ℕ)) → IsOne (simulation.sim holds arguments)
   pub schedule_ir : (holds : Contents) (arguments : SaidSchedule (List ℕ)) → arguments.source ≡ Ir → IsOne (schedules.schedule holds arguments)
   pub opt : (holds : Contents) (arguments : SaidOpt (List ℕ)) → Agrees (optimising.opt holds arguments)
   pub verilog_ir : (holds : Contents) (arguments : SaidVerilog (List ℕ)) → arguments.source ≡ Ir → Agrees (printing.verilog holds arguments)
   pub ir : (holds : Contents) (arguments : SaidIr (List ℕ)) → Agrees (lowered.ir_of_design holds arguments)
 
+texts_are_one : TheLaws → (source : Source) (arguments : SaidRun (List ℕ)) (file inputs : List ℕ) → IsOne (run_texts source arguments file inputs)
+texts_are_one laws Dslx arguments file inputs = laws.run arguments file inputs
+texts_are_one laws Ir arguments file inputs = laws.run_ir arguments file inputs
+
 run_is_one : TheLaws → (source : Source) (arguments : SaidRun (List ℕ)) (holds : Contents) → IsOne (run_by source holds arguments)
-run_is_one laws Dslx arguments holds = laws.run holds arguments
-run_is_one laws Ir arguments holds = laws.run_ir holds arguments
+run_is_one laws source arguments holds =
+    then_is_one (Loads holds arguments.design) (λ file. Then (Loads holds arguments.inputs) (λ inputs. run_texts source arguments file inputs)) (loads_is_one holds arguments.design)
+    (λ file. then_is_one (Loads holds arguments.inputs) (λ inputs. run_texts source arguments file inputs) (loads_is_one holds arguments.inputs) (λ inputs. texts_are_one laws source arguments file inputs))
 
 -- what a run gives is the same by any number of workers
 pub any_workers : (source : Source) (holds : Contents) (arguments : SaidRun (List ℕ)) (count : ℕ) (given : Result (List ℕ) Fault) →
@@ -108,10 +115,6 @@ module _ {V : Type 0} (items : V → List ℕ) (words : List (List ℕ)) (known_
   done_without_command is gives asks =
       let done : IsDone items (expected_for None known_contents) [] files given = record { names = []; in_order = tt; asked = asks; gives = gives } in
       subst (λ (s : Option (Request (List ℕ))). IsDone items (expected_for s known_contents) (named_for s) files given) is done
-
-  -- a run of what its file is written in
-  pub done_by_source : (source : Source) (arguments : SaidRun (List ℕ)) → arguments.how.source ≡ source → IsDone items (ExpectedBy known_contents (λ holds. run_by source holds arguments)) (design.run_files arguments) files given → IsDone items (expected_of_run arguments known_contents) (design.run_files arguments) files given
-  done_by_source source arguments is done = subst (λ s. IsDone items (ExpectedBy known_contents (λ holds. run_by s holds arguments)) (design.run_files arguments) files given) (sym is) done
 
 -- nothing was loaded
 pub nothing_asked : (names : List (List ℕ)) → names ≡ names ++ []

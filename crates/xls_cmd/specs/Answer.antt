@@ -11,30 +11,22 @@ use Rattle.cmd_line.specs.declared.request.Run.{Run}
 use Rattle.cmd_line.specs.declared.request.Source.{Source}
 use Rattle.cmd_line.specs.declared.request.Source.TheVariants.{Dslx, Ir}
 use Rattle.xls_cmd.specs.Design.Commands as design
-use Rattle.xls_cmd.specs.Ir.Commands as ir
+use Rattle.xls_cmd.specs.Run.Commands as runs
 use Rattle.xls_cmd.specs.Sim.Simulation as simulation
 use Rattle.xls_cmd.specs.Schedule.Commands as schedules
 use Rattle.xls_cmd.specs.Lowered.Commands as lowered
 use Rattle.xls_cmd.specs.Opt.Commands as optimising
 use Rattle.xls_cmd.specs.Verilog.Commands as printing
 
--- what a run gives, by what its file is written in
-abbrev pub run_by : Source → Contents → Run (List ℕ) → Step (List ℕ)
-run_by Dslx holds arguments = design.run holds arguments
-run_by Ir holds arguments = ir.run holds arguments
-
 -- the same run by so many workers
 abbrev pub by_workers : ℕ → Run (List ℕ) → Run (List ℕ)
 by_workers count arguments = record arguments { how = record arguments.how { workers = count } }
-
-abbrev pub expected_of_run : Run (List ℕ) → Option Contents → Step (List ℕ)
-expected_of_run arguments known_contents given = ExpectedBy known_contents (λ holds. run_by arguments.how.source holds arguments) given
 
 -- What is expected for what the words of each command say: this is the one place that lists them. A command that is to come refuses
 -- its words.
 abbrev pub expected_of : Request (List ℕ) → Option Contents → Step (List ℕ)
 expected_of (request.Check arguments) known_contents given = ExpectedBy known_contents (λ holds. design.check holds arguments) given
-expected_of (request.Run arguments) known_contents given = expected_of_run arguments known_contents given
+expected_of (request.Run arguments) known_contents given = ExpectedBy known_contents (λ holds. runs.run_by arguments.how.source holds arguments) given
 expected_of (request.Sim arguments) known_contents given = ExpectedBy known_contents (λ holds. simulation.sim holds arguments) given
 expected_of (request.Schedule arguments) known_contents given = ExpectedBy known_contents (λ holds. schedules.schedule holds arguments) given
 expected_of (request.Opt arguments) known_contents given = ExpectedBy known_contents (λ holds. optimising.opt holds arguments) given
@@ -45,7 +37,7 @@ expected_of (request.Gen arguments) known_contents given = given ≡ Err Usage
 -- the files that the words of each name, in the order in which they are loaded
 abbrev pub files_of : Request (List ℕ) → List (List ℕ)
 files_of (request.Check arguments) = design.check_files arguments
-files_of (request.Run arguments) = design.run_files arguments
+files_of (request.Run arguments) = runs.run_files arguments
 files_of (request.Sim arguments) = simulation.sim_files arguments
 files_of (request.Schedule arguments) = schedules.schedule_files arguments
 files_of (request.Opt arguments) = optimising.opt_files arguments

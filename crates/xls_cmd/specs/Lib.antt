@@ -1,13 +1,15 @@
 -- what the program answers to words, by what the files hold
 pub mod Answer
--- `check` and `run` of designs
+-- `check`, and runs of designs
 pub mod Design
--- `run` of IR packages
+-- runs of IR packages
 pub mod Ir
 -- `ir`, and packages of designs
 pub mod Lowered
 -- `opt`
 pub mod Opt
+-- `run`
+pub mod Run
 -- `schedule`
 pub mod Schedule
 -- what all commands share

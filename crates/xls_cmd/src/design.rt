@@ -1,4 +1,4 @@
-//! The commands of a design: `check` and `run`.
+//! The command `check`, and runs of designs.
 //!
 //! What each gives stands in `specs/Design/Commands`, and what is written in `specs/Design/Written`. [`run_text`] writes what a run of any
 //! network shows, whatever its procs are made of and however many workers make it.
@@ -12,6 +12,6 @@ mod running;
 mod source;
 
 pub use check::check_design;
-pub use run::{run_design, run_design_alone};
+pub use run::{RunnableDesign, run_design, run_design_alone, runnable_design};
 pub use running::{depths, run_text, run_text_alone};
 pub use source::{check_module, inputs_of, read_design};

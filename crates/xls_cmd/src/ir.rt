@@ -1,4 +1,4 @@
-//! The commands of IR texts: `run --from ir`.
+//! Runs of IR texts.
 //!
 //! What each gives stands in `specs/Ir/Commands`.
 //!
@@ -7,5 +7,5 @@ pub mod laws;
 mod run;
 mod source;
 
-pub use run::{run_package, run_package_alone};
+pub use run::{RunnablePackage, run_package, run_package_alone, runnable_package};
 pub use source::read_package;

@@ -6,7 +6,8 @@ ghost use Rattle.cmd_line.specs.declared.request.Source.{Source};
 ghost use Rattle.xb_io.specs.Contents.{Contents};
 ghost use Rattle.xls_cmd.specs.Shared.Step.{IsOne};
 ghost use Rattle.xls_cmd.specs.Shared.Agrees.{Agrees};
-ghost use Rattle.xls_cmd.specs.Answer.{by_workers, expected, is_exact, is_settled, run_by};
+ghost use Rattle.xls_cmd.specs.Answer.{by_workers, expected, is_exact, is_settled};
+ghost use Rattle.xls_cmd.specs.Run.Commands.{run_by};
 
 /// The words and the files determine what is expected, but for the texts of packages and of modules, and for the schedules of a package that the
 /// program chooses, and whether there are any.

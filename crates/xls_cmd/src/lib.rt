@@ -9,6 +9,7 @@ pub mod ir;
 pub mod laws;
 pub mod lowered;
 pub mod opt;
+pub mod run;
 pub mod schedule;
 pub mod shared;
 pub mod sim;

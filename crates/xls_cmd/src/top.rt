@@ -4,22 +4,23 @@ ghost use Rattle.xls_cmd.specs.Shared.Answered.{IsAnswered};
 ghost use Rattle.xls_cmd.specs.Shared.Done.{IsDone};
 ghost use Rattle.xls_cmd.specs.Shared.Events.{file_events, sink_events};
 ghost use Rattle.xls_cmd.specs.Shared.Fault.{Fault as Cause};
-ghost use Rattle.xls_cmd.specs.Answer.{expected, expected_of, expected_of_run, files_of, is_settled, named_files, status_for};
-ghost use Rattle.xls_cmd.specs.Design.Commands.{run_files};
+ghost use Rattle.xls_cmd.specs.Shared.Step.{ExpectedBy};
+ghost use Rattle.xls_cmd.specs.Answer.{expected, expected_of, files_of, is_settled, named_files, status_for};
+ghost use Rattle.xls_cmd.specs.Run.Commands.{run_by, run_files};
 ghost use Rattle.xls_cmd.specs.Workers.{IsLeftToWorkers, has_workers, is_by_workers, wants_workers};
-ghost use Rattle.cmd_line.specs.Bounds.{IsInBounds, IsWorkerCount};
+ghost use Rattle.cmd_line.specs.Bounds.{IsInBounds};
 ghost use Rattle.cmd_line.specs.Named.{named, named_run};
 
-use crate::design::{check_design, run_design, run_design_alone};
-use crate::ir::{run_package, run_package_alone};
+use crate::design::check_design;
 use crate::laws::one_answer;
 use crate::lowered::ir_design;
 use crate::opt::opt_file;
+use crate::run::{run_file, run_file_alone};
 use crate::schedule::schedule_file;
 use crate::shared::{Fault, Refusal, respond};
 use crate::sim::sim_design;
 use crate::verilog::verilog_file;
-use cmd_line::{Request, Run, Source, read_words};
+use cmd_line::{Request, Run, read_words};
 use std::alloc::Global;
 use std::sync::Wait;
 use std::thread::Threads;
@@ -154,28 +155,13 @@ fn run_alone<'a, F: Files>(
     arguments: Run<&'a str>,
 ) -> Option<Result<Vec<u8>, Refusal<'a>>>
     ensures { MatchOption result (has_workers (named_run arguments.entry) ≡ true × (files.new ≡ files.old))
-        (IsDone (λ text. text.items) (expected_of_run (named_run arguments.entry) (F.told files.old)) (run_files (named_run arguments.entry))
+        (IsDone (λ text. text.items) (ExpectedBy (F.told files.old) (λ holds. run_by arguments.how.source holds (named_run arguments.entry))) (run_files (named_run arguments.entry))
         (file_events F.asked F.faults F.taken files.old files.new)) }
 {
     if arguments.how.workers > 1 {
         None
     } else {
-        Some(run_in_turn(alloc, files, arguments))
-    }
-}
-
-/// The output of a run, in one thread.
-fn run_in_turn<'a, F: Files>(
-    alloc: Global,
-    files: &mut F,
-    arguments: Run<&'a str>,
-) -> Result<Vec<u8>, Refusal<'a>>
-    ensures { IsDone (λ text. text.items) (expected_of_run (named_run arguments.entry) (F.told files.old)) (run_files (named_run arguments.entry))
-        (file_events F.asked F.faults F.taken files.old files.new) result }
-{
-    match arguments.how.source {
-        Source::Dslx => run_design_alone(alloc, files, arguments),
-        Source::Ir => run_package_alone(alloc, files, arguments),
+        Some(run_file_alone(alloc, files, arguments))
     }
 }
 
@@ -212,30 +198,12 @@ fn requested<'a, R: Threads + Wait + Sync, F: Files, G: Gate + Sync>(
 {
     match arguments {
         Request::Check(arguments) => check_design(alloc, files, arguments),
-        Request::Run(arguments) => run(rt, alloc, files, arguments, gate),
+        Request::Run(arguments) => run_file(rt, alloc, files, arguments, gate),
         Request::Sim(arguments) => sim_design(alloc, files, arguments),
         Request::Schedule(arguments) => schedule_file(alloc, files, arguments),
         Request::Opt(arguments) => opt_file(alloc, files, arguments),
         Request::Verilog(arguments) => verilog_file(alloc, files, arguments),
         Request::Ir(arguments) => ir_design(alloc, files, arguments),
         Request::Gen(_) => Err(Refusal::Fault(Fault::Usage)),
-    }
-}
-
-/// The output of a run.
-fn run<'a, R: Threads + Wait + Sync, F: Files, G: Gate + Sync>(
-    rt: &R,
-    alloc: Global,
-    files: &mut F,
-    arguments: Run<&'a str>,
-    gate: &G,
-) -> Result<Vec<u8>, Refusal<'a>>
-    requires { IsWorkerCount arguments.how.workers }
-    ensures { IsDone (λ text. text.items) (expected_of_run (named_run arguments.entry) (F.told files.old)) (run_files (named_run arguments.entry))
-        (file_events F.asked F.faults F.taken files.old files.new) result }
-{
-    match arguments.how.source {
-        Source::Dslx => run_design(rt, alloc, files, arguments, gate),
-        Source::Ir => run_package(rt, alloc, files, arguments, gate),
     }
 }

@@ -36,7 +36,7 @@ use Rattle.dslx_core.specs.declared.design.Design.{Design}
 use Rattle.dslx.specs.declared.count.size.NetworkSize.{NetworkSize}
 use Rattle.dslx_elab.specs.Runs.{IsOfAccepted, RunsText}
 use Rattle.dslx.specs.Texts.{GivesTree, HasCheckedText, HasNetworkSize, RefusesText}
-use Rattle.xls_cmd.specs.Design.Commands.{ReadsInputs, ReadsModule, says, at_fault, check, check_text, run, run_texts}
+use Rattle.xls_cmd.specs.Design.Commands.{ReadsInputs, ReadsModule, says, at_fault, check, check_text, run_texts}
 use Rattle.xls_cmd.specs.Design.Inner.{IsDesignRead, IsSizeRead, RunsDesign}
 use Rattle.xls_cmd.specs.Design.Written.{accepted, depth_by, depths_by, run_text}
 
@@ -137,13 +137,8 @@ shown_by arguments m words = Ok (shown_of (network_of m arguments.top) (behavior
 abbrev pub inputs_then : Run (List ℕ) → List ℕ → Module → Result (List ℕ) Fault → Type 0
 inputs_then arguments inputs m = Then (ReadsInputs arguments.inputs inputs (network_of m arguments.top)) (λ words. Gives (shown_by arguments m words))
 
-texts_are_one : OneModule → (arguments : Run (List ℕ)) (design inputs : List ℕ) → IsOne (run_texts arguments design inputs)
+pub texts_are_one : OneModule → (arguments : Run (List ℕ)) (design inputs : List ℕ) → IsOne (run_texts arguments design inputs)
 texts_are_one law arguments design inputs =
     then_is_one (ReadsModule arguments.design arguments.top design) (inputs_then arguments inputs) (module_is_one law arguments.design arguments.top design)
     (λ m. then_is_one (ReadsInputs arguments.inputs inputs (network_of m arguments.top)) (λ words. Gives (shown_by arguments m words))
     (inputs_is_one arguments.inputs inputs (network_of m arguments.top)) (λ words. gives_is_one (shown_by arguments m words)))
-
-pub run_is_one : OneModule → (holds : Contents) (arguments : Run (List ℕ)) → IsOne (run holds arguments)
-run_is_one law holds arguments =
-    then_is_one (Loads holds arguments.design) (λ design. Then (Loads holds arguments.inputs) (λ inputs. run_texts arguments design inputs)) (loads_is_one holds arguments.design)
-    (λ design. then_is_one (Loads holds arguments.inputs) (λ inputs. run_texts arguments design inputs) (loads_is_one holds arguments.inputs) (λ inputs. texts_are_one law arguments design inputs))

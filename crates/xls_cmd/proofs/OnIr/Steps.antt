@@ -66,14 +66,9 @@ package_is_one law name bytes =
 abbrev pub shown_by : Run (List ℕ) → Package → Inputs → Result (List ℕ) Fault
 shown_by arguments ir words = Ok (run_text (network_of ir) (behaviors_of ir) words arguments.how.activations (depths_by arguments.how.depth (network_of ir)))
 
-texts_are_one : OnePackage → OneInput → (arguments : Run (List ℕ)) (design inputs : List ℕ) → IsOne (run_texts arguments design inputs)
+pub texts_are_one : OnePackage → OneInput → (arguments : Run (List ℕ)) (design inputs : List ℕ) → IsOne (run_texts arguments design inputs)
 texts_are_one law one_input arguments design inputs =
     then_is_one (ReadsPackage arguments.design design) (λ ir. Then (ReadsInputs arguments.inputs inputs (network_of ir)) (λ words. Gives (shown_by arguments ir words)))
     (package_is_one law arguments.design design)
     (λ ir. then_is_one (ReadsInputs arguments.inputs inputs (network_of ir)) (λ words. Gives (shown_by arguments ir words))
     (one_input arguments.inputs inputs (network_of ir)) (λ words. gives_is_one (shown_by arguments ir words)))
-
-pub run_is_one : OnePackage → OneInput → (holds : Contents) (arguments : Run (List ℕ)) → IsOne (run holds arguments)
-run_is_one law one_input holds arguments =
-    then_is_one (Loads holds arguments.design) (λ design. Then (Loads holds arguments.inputs) (λ inputs. run_texts arguments design inputs)) (loads_is_one holds arguments.design)
-    (λ design. then_is_one (Loads holds arguments.inputs) (λ inputs. run_texts arguments design inputs) (loads_is_one holds arguments.inputs) (λ inputs. texts_are_one law one_input arguments design inputs))

@@ -43,15 +43,6 @@ run_texts arguments design inputs =
     Then (ReadsInputs arguments.inputs inputs (network_of m arguments.top)) (λ words.
     Gives (Ok (run_text (network_of m arguments.top) (behaviors_of m arguments.top) words arguments.how.activations (depths_by arguments.how.depth (network_of m arguments.top))))))
 
-abbrev pub run : Contents → Run (List ℕ) → Step (List ℕ)
-run holds arguments =
-    Then (Loads holds arguments.design) (λ design.
-    Then (Loads holds arguments.inputs) (λ inputs.
-    run_texts arguments design inputs))
-
--- the files that each names, in the order in which they are loaded
+-- the file that it names
 abbrev pub check_files : Check (List ℕ) → List (List ℕ)
 check_files arguments = arguments.design ∷ []
-
-abbrev pub run_files : Run (List ℕ) → List (List ℕ)
-run_files arguments = arguments.design ∷ arguments.inputs ∷ []

@@ -1,8 +1,7 @@
--- The commands of IR texts, each read from top to bottom: the order of the steps is the order of the causes.
-use Rattle.std.specs.Prelude.{ℕ, List, [], ◌∷◌, Ok}
-use Rattle.xb_io.specs.Contents.{Contents}
+-- The steps of a run of an IR text: their order is the order of the causes.
+use Rattle.std.specs.Prelude.{ℕ, List, Ok}
 use Rattle.xls_cmd.specs.Shared.Step.{Step, Then, Gives}
-use Rattle.xls_cmd.specs.Shared.Loads.{Loads, OfText, text_of}
+use Rattle.xls_cmd.specs.Shared.Loads.{OfText, text_of}
 use Rattle.cmd_line.specs.declared.request.Run.{Run}
 use Rattle.xls_cmd.specs.Design.Commands.{ReadsInputs}
 use Rattle.xls_cmd.specs.Design.Written.{depths_by, run_text}
@@ -20,13 +19,3 @@ run_texts arguments design inputs =
     Then (ReadsPackage arguments.design design) (λ ir.
     Then (ReadsInputs arguments.inputs inputs (network_of ir)) (λ words.
     Gives (Ok (run_text (network_of ir) (behaviors_of ir) words arguments.how.activations (depths_by arguments.how.depth (network_of ir))))))
-
-abbrev pub run : Contents → Run (List ℕ) → Step (List ℕ)
-run holds arguments =
-    Then (Loads holds arguments.design) (λ design.
-    Then (Loads holds arguments.inputs) (λ inputs.
-    run_texts arguments design inputs))
-
--- the files that it names, in the order in which they are loaded
-abbrev pub run_files : Run (List ℕ) → List (List ℕ)
-run_files arguments = arguments.design ∷ arguments.inputs ∷ []

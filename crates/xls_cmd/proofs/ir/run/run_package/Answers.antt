@@ -1,17 +1,34 @@
-use Rattle.xls_cmd.specs.Shared.Events.{file_events}
-use Rattle.xls_cmd.specs.Shared.Step.{ExpectedBy}
-use Rattle.cmd_line.specs.Named.{named_run}
-use Rattle.xls_cmd.specs.Ir.Commands.{run, run_files}
-use Rattle.xls_cmd.specs.Ir.Ready.{shown}
-use Rattle.xls_cmd.proofs.Lemmas.Shared.{done_from, done_refused}
+use denote.Param.Send.{sendable}
+use Rattle.std.proofs.Common.{◌≡◌, ◌∙◌, ap, sym, subst, arith, map}
+use Rattle.std.proofs.lemmas.List.{length-map}
+use Rattle.std.proofs.lemmas.Result.{IfOk-weaker}
+use Rattle.net_core.specs.WellFormed.{AreBehaviorsOf, IsNet}
+use Rattle.ir_tree.specs.Networks.{behaviors_of, head_of}
+use Rattle.ir_tree.proofs.Lemmas.Rules.Typed.{network_fits, procs_fit}
+use Rattle.ir_eval.specs.IrBodies.{behavior_of}
+use Rattle.xls_cmd.specs.Design.Written.{depths_by, run_text}
+use Rattle.xls_cmd.proofs.OnIr.Shared.{package_field, proc_field}
 use Rattle.xls_cmd.proofs.ir.run.run_package.Goals as goal
 
-pub returns-in-Ok : goal.returns-in-Ok
-returns-in-Ok g c =
-    done_from (shown c.args.arguments.how) (λ text. text.items) (ExpectedBy (g.F.Files.told c.args.files.now) (λ holds. run holds (named_run c.args.arguments))) (run_files (named_run c.args.arguments))
-    (file_events g.F.Files.asked g.F.Files.faults g.F.Files.taken c.args.files.now c.prepare.new.files) c.in-Ok.ready c.ran.result c.or_no_memory.result c.in-Ok.ensures.done c.ran.ensures c.or_no_memory.ensures
+pub bodies_of-requires-clause-few : goal.bodies_of-requires-clause-few
+bodies_of-requires-clause-few g c = omega (arith, length-map c.args.ready.now.ir.procs head_of, (network_fits c.args.ready.now.ir c.requires.fits.verified).few_procs)
 
-pub returns-in-Err : goal.returns-in-Err
-returns-in-Err g c =
-    done_refused (shown c.args.arguments.how) (λ text. text.items) (ExpectedBy (g.F.Files.told c.args.files.now) (λ holds. run holds (named_run c.args.arguments))) (run_files (named_run c.args.arguments))
-    (file_events g.F.Files.asked g.F.Files.faults g.F.Files.taken c.args.files.now c.prepare.new.files) c.in-Err.refusal c.in-Err.ensures.done
+pub run_text-requires-sync-B : goal.run_text-requires-sync-B
+run_text-requires-sync-B g c κs within = let a = package_field in let b = proc_field in search sendable depth 20
+
+pub run_text-requires-clause-net : goal.run_text-requires-clause-net
+run_text-requires-clause-net g c κs within = subst IsNet (sym c.requires.fits.network) (network_fits c.args.ready.now.ir c.requires.fits.verified)
+
+pub run_text-requires-clause-bodies : goal.run_text-requires-clause-bodies
+run_text-requires-clause-bodies g c κs within =
+    let bodies : map behavior_of c.as_slice.result.now ≡ behaviors_of c.args.ready.now.ir = ap (map behavior_of) c.as_slice.ensures.value ∙ c.in_ok-bodies.ensures in
+    subst (AreBehaviorsOf c.args.ready.now.net) (sym bodies)
+    (subst (λ n. AreBehaviorsOf n (behaviors_of c.args.ready.now.ir)) (sym c.requires.fits.network) (procs_fit c.args.ready.now.ir))
+
+pub returns : goal.returns
+returns g c =
+    let net = c.args.ready.now.net in
+    let bodies : map behavior_of c.as_slice.result.now ≡ behaviors_of c.args.ready.now.ir = ap (map behavior_of) c.as_slice.ensures.value ∙ c.in_ok-bodies.ensures in
+    IfOk-weaker c.run_text.result _ _
+    (λ text is. is ∙ ap (λ b. run_text net b c.args.ready.now.inputs c.args.how.activations (depths_by c.args.how.depth net)) bodies)
+    c.run_text.ensures

@@ -7,7 +7,7 @@ use Rattle.dslx_meaning.specs.Network.{network_of}
 use Rattle.dslx_core.specs.Designs.{core_behaviors, core_network}
 use Rattle.xls_cmd.specs.Design.Commands.{ReadsInputs, ReadsModule, run_texts}
 use Rattle.xls_cmd.proofs.OnDesign.Steps.{inputs_then, shown_by, shown_of, text_runs}
-use Rattle.xls_cmd.proofs.design.run.prepare_loaded.Goals as goal
+use Rattle.xls_cmd.proofs.design.run.runnable_design.Goals as goal
 
 pub returns-in_err-design-clause-refused : goal.returns-in_err-design-clause-refused
 returns-in_err-design-clause-refused c =

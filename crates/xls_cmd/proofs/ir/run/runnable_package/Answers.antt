@@ -10,7 +10,7 @@ use Rattle.xls_cmd.specs.Design.Commands.{ReadsInputs}
 use Rattle.xls_cmd.specs.Design.Written.{depths_by, run_text}
 use Rattle.xls_cmd.specs.Ir.Commands.{ReadsPackage, run_texts}
 use Rattle.xls_cmd.proofs.OnIr.Steps.{shown_by}
-use Rattle.xls_cmd.proofs.ir.run.prepare_loaded.Goals as goal
+use Rattle.xls_cmd.proofs.ir.run.runnable_package.Goals as goal
 
 pub returns-in_err-ir-clause-refused : goal.returns-in_err-ir-clause-refused
 returns-in_err-ir-clause-refused c =
