@@ -5,7 +5,7 @@
 
 Designs are those of tests/ and of examples/ that are run with success, and those of the lists of cases FILE, one a line in JSON. Of each:
 `ir` and `opt` write a package; a run of either writes, byte by byte, what is wanted of the design's run (for examples/ the file that stands there);
-`opt` of the package that `ir` wrote is what `opt` of the design writes; and `schedule` of the design is that of its optimised package.
+`opt` of the package that `ir` wrote is what `opt` of the design writes; and `schedule` and `verilog` of the design are those of its optimised package.
 Prints each call that answers otherwise, and ends with 1 if there is one.
 """
 
@@ -85,6 +85,10 @@ def faults_of(program, folder, words, wanted, scratch):
         read = answer(program, folder, ['schedule', str(packages['opt']), '--clock', clock, '--from', 'ir'])
         if own != read:
             yield f'schedule at {clock} is something else than that of what opt writes'
+        own = answer(program, folder, ['verilog', design, *top, '--clock', clock])
+        read = answer(program, folder, ['verilog', str(packages['opt']), '--clock', clock, '--from', 'ir'])
+        if own[:2] != read[:2]:
+            yield f'verilog at {clock} is something else than that of what opt writes'
 
 
 def main():
