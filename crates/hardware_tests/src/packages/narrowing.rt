@@ -1,6 +1,6 @@
 //! Narrowing of as many nodes as a package holds, whose text would be too long to be read.
 
-use crate::sample::{node, package};
+use crate::packages::sample::{node, package};
 use delay_model::{Extend, Op};
 use ir_rebuild::append;
 use ir_tree::rules::verify;

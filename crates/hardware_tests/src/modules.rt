@@ -1,0 +1,4 @@
+//! Tests of Verilog modules.
+mod printed;
+mod reads;
+mod words;

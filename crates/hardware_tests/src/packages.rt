@@ -1,0 +1,5 @@
+//! Tests of IR packages.
+mod narrowing;
+mod reading;
+mod sample;
+mod tokens;
