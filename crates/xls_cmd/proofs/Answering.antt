@@ -72,7 +72,7 @@ expected_of_is_one laws (Schedule arguments) holds exact a b is also = laws.sche
 expected_of_is_one laws (Opt arguments) holds exact a b is also = absurd (cc)
 expected_of_is_one laws (Verilog arguments) holds exact a b is also = absurd (cc)
 expected_of_is_one laws (SaysIr arguments) holds exact a b is also = absurd (cc)
-expected_of_is_one laws (Gen arguments) holds exact a b is also = is ∙ sym also
+expected_of_is_one laws (Gen arguments) holds exact a b is also = absurd (cc)
 
 expected_for_is_one : TheLaws → (arguments : Option (Request (List ℕ))) (holds : Contents) → is_exact_for arguments ≡ true → IsOne (expected_for arguments (Some holds))
 expected_for_is_one laws None holds exact a b is also = is ∙ sym also
@@ -92,7 +92,7 @@ expected_for_agrees laws (Some (Schedule arguments)) holds settled = one_agrees 
 expected_for_agrees laws (Some (Opt arguments)) holds settled = λ a b is also. laws.opt holds arguments a b is.1 also.1
 expected_for_agrees laws (Some (Verilog arguments)) holds settled = λ a b is also. laws.verilog_ir holds arguments (read_is arguments.source settled) a b is.1 also.1
 expected_for_agrees laws (Some (SaysIr arguments)) holds settled = λ a b is also. laws.ir holds arguments a b is.1 also.1
-expected_for_agrees laws (Some (Gen arguments)) holds settled = one_agrees (expected_of (Gen arguments) (Some holds)) (expected_of_is_one laws (Gen arguments) holds refl)
+expected_for_agrees laws (Some (Gen arguments)) holds settled = absurd (cc)
 
 pub expected_agrees : TheLaws → (words : List (List ℕ)) (holds : Contents) → is_settled words ≡ true → Agrees (expected words (Some holds))
 expected_agrees laws words holds settled = expected_for_agrees laws (arguments_of words) holds settled

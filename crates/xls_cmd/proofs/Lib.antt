@@ -1,19 +1,20 @@
-mod Answering
 -- `check` and `run` of designs
-pub mod OnDesign
--- `run` of IR packages
-pub mod OnIr
 -- `ir`, and packages of designs
-pub mod OnLowered
 -- `opt`
-pub mod OnOpt
+-- `run` of IR packages
 -- `schedule`
-pub mod OnSchedule
--- what all commands share
-pub mod OnShared
 -- `sim`
-pub mod OnSim
 -- `verilog`
-pub mod OnVerilog
 -- for other crates' proofs
+-- what all commands share
+mod Answering
 pub mod Lemmas
+pub mod OnDesign
+pub mod OnGen
+pub mod OnIr
+pub mod OnLowered
+pub mod OnOpt
+pub mod OnSchedule
+pub mod OnShared
+pub mod OnSim
+pub mod OnVerilog

@@ -2,7 +2,7 @@
 use Rattle.std.specs.Prelude.{◌≡◌, ℕ, Bool, true, false, List, [], Option, Some, None, Result, Ok, Err}
 use Rattle.xb_io.specs.Contents.{Contents}
 use Rattle.xls_cmd.specs.Shared.Fault.{Fault, status_of}
-use Rattle.xls_cmd.specs.Shared.Step.{ExpectedBy, Step}
+use Rattle.xls_cmd.specs.Shared.Step.{ExpectedBy, IsGivenByCommand, Step}
 use Rattle.xls_cmd.specs.declared.shared.fault.Fault.TheVariants.{Usage}
 use Rattle.cmd_line.specs.CommandLine.{arguments_of}
 use Rattle.cmd_line.specs.declared.request.Request.{Request}
@@ -11,6 +11,7 @@ use Rattle.cmd_line.specs.declared.request.Run.{Run}
 use Rattle.cmd_line.specs.declared.request.Source.{Source}
 use Rattle.cmd_line.specs.declared.request.Source.TheVariants.{Dslx, Ir}
 use Rattle.xls_cmd.specs.Design.Commands as design
+use Rattle.xls_cmd.specs.Gen.Commands as generating
 use Rattle.xls_cmd.specs.Run.Commands as runs
 use Rattle.xls_cmd.specs.Sim.Simulation as simulation
 use Rattle.xls_cmd.specs.Schedule.Commands as schedules
@@ -22,8 +23,7 @@ use Rattle.xls_cmd.specs.Verilog.Commands as printing
 abbrev pub by_workers : ℕ → Run (List ℕ) → Run (List ℕ)
 by_workers count arguments = record arguments { how = record arguments.how { workers = count } }
 
--- What is expected for what the words of each command say: this is the one place that lists them. A command that is to come refuses
--- its words.
+-- What is expected for what the words of each command say: this is the one place that lists them.
 abbrev pub expected_of : Request (List ℕ) → Option Contents → Step (List ℕ)
 expected_of (request.Check arguments) known_contents given = ExpectedBy known_contents (λ holds. design.check holds arguments) given
 expected_of (request.Run arguments) known_contents given = ExpectedBy known_contents (λ holds. runs.run_by arguments.how.source holds arguments) given
@@ -32,7 +32,7 @@ expected_of (request.Schedule arguments) known_contents given = ExpectedBy known
 expected_of (request.Opt arguments) known_contents given = ExpectedBy known_contents (λ holds. optimising.opt holds arguments) given
 expected_of (request.Ir arguments) known_contents given = ExpectedBy known_contents (λ holds. lowered.ir_of_design holds arguments) given
 expected_of (request.Verilog arguments) known_contents given = ExpectedBy known_contents (λ holds. printing.verilog holds arguments) given
-expected_of (request.Gen arguments) known_contents given = given ≡ Err Usage
+expected_of (request.Gen arguments) known_contents given = IsGivenByCommand given × generating.gen arguments given
 
 -- the files that the words of each name, in the order in which they are loaded
 abbrev pub files_of : Request (List ℕ) → List (List ℕ)
@@ -64,6 +64,7 @@ is_exact_for (Some (request.Ir arguments)) = false
 is_exact_for (Some (request.Schedule arguments)) = is_read_by arguments.source
 is_exact_for (Some (request.Opt arguments)) = false
 is_exact_for (Some (request.Verilog arguments)) = false
+is_exact_for (Some (request.Gen arguments)) = false
 is_exact_for _ = true
 
 -- words for which one thing is expected: all but those for a package or a module, of which several are as good, and for schedules of a design's
@@ -74,6 +75,7 @@ is_exact words = is_exact_for (arguments_of words)
 abbrev pub is_settled_for : Option (Request (List ℕ)) → Bool
 is_settled_for (Some (request.Schedule arguments)) = is_read_by arguments.source
 is_settled_for (Some (request.Verilog arguments)) = is_read_by arguments.source
+is_settled_for (Some (request.Gen arguments)) = false
 is_settled_for _ = true
 
 -- words for which it is settled whether a text is expected, and else the cause: all but those for schedules of a design's package, which may be

@@ -2,6 +2,8 @@
 pub mod Answer
 -- `check`, and runs of designs
 pub mod Design
+-- `gen`
+pub mod Gen
 -- runs of IR packages
 pub mod Ir
 -- `ir`, and packages of designs

@@ -11,13 +11,14 @@ has_workers arguments = nat_lt 1 arguments.how.workers
 
 abbrev pub is_by_workers : Request (List ℕ) → Bool
 is_by_workers (request.Run arguments) = has_workers arguments
+is_by_workers (request.Gen arguments) = true
 is_by_workers _ = false
 
 abbrev pub wants_workers_for : Option (Request (List ℕ)) → Bool
 wants_workers_for (Some arguments) = is_by_workers arguments
 wants_workers_for None = false
 
--- words that say a run by two or more workers
+-- words that say a run by two or more workers, or `gen`, one of whose runs is by four
 abbrev pub wants_workers : List (List ℕ) → Bool
 wants_workers words = wants_workers_for (arguments_of words)
 

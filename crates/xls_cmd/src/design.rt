@@ -12,6 +12,7 @@ mod running;
 mod source;
 
 pub use check::check_design;
+pub use network::made_network;
 pub use run::{RunnableDesign, run_design, run_design_alone, runnable_design};
 pub use running::{depths, run_text, run_text_alone};
 pub use source::{check_module, inputs_of, read_design};

@@ -10,7 +10,7 @@ ghost use Rattle.xls_cmd.specs.Answer.{by_workers, expected, is_exact, is_settle
 ghost use Rattle.xls_cmd.specs.Run.Commands.{run_by};
 
 /// The words and the files determine what is expected, but for the texts of packages and of modules, and for the schedules of a package that the
-/// program chooses, and whether there are any.
+/// program chooses, whether there are any, and what its module moves under `gen`.
 pub fn one_answer()
     ensures one { (words : List (List ℕ)) (holds : Contents) → is_exact words ≡ true → IsOne (expected words (Some holds)) }
     ensures agrees { (words : List (List ℕ)) (holds : Contents) → is_settled words ≡ true → Agrees (expected words (Some holds)) }

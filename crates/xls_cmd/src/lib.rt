@@ -5,6 +5,7 @@
 #![tactic(auto)]
 
 pub mod design;
+pub mod generate;
 pub mod ir;
 pub mod laws;
 pub mod lowered;

@@ -12,6 +12,7 @@ ghost use Rattle.cmd_line.specs.Bounds.{IsInBounds};
 ghost use Rattle.cmd_line.specs.Named.{named, named_run};
 
 use crate::design::check_design;
+use crate::generate::gen_levels;
 use crate::laws::one_answer;
 use crate::lowered::ir_design;
 use crate::opt::opt_file;
@@ -30,7 +31,7 @@ use xb_io::{Files, Gate, Sink};
 ///
 /// The output goes to `out`, in one piece that is built before it is put; a line that says why there is none goes to
 /// `err`, and never changes the status. What takes no workers is answered by [`answer_alone`], so it ends; a run by several workers
-/// takes a thread for each, and `gate` is called before each of their turns.
+/// takes a thread for each, and `gate` is called before each of their turns; so does `gen`, by four.
 pub fn xls_main<R: Threads + Wait + Sync, F: Files, O: Sink, E: Sink, G: Gate + Sync>(
     rt: &R,
     alloc: Global,
@@ -57,7 +58,7 @@ pub fn xls_main<R: Threads + Wait + Sync, F: Files, O: Sink, E: Sink, G: Gate + 
     }
 }
 
-/// [`xls_main`] of all words but those of a run by two or more workers; these alone are `None`, and nothing is asked for or put then. It
+/// [`xls_main`] of all words but those of a run by two or more workers and of `gen`; these alone are `None`, and nothing is asked for or put then. It
 /// has no right to wait, so it ends.
 pub fn answer_alone<F: Files, O: Sink, E: Sink>(
     alloc: Global,
@@ -107,7 +108,7 @@ fn answer<R: Threads + Wait + Sync, F: Files, O: Sink, E: Sink, G: Gate + Sync>(
     respond(given, out, err)
 }
 
-/// The output of the command that the words say, unless that is a run by two or more workers.
+/// The output of the command that the words say, unless that is a run by two or more workers or `gen`.
 fn execute_alone<'a, F: Files>(
     alloc: Global,
     words: &'a [String],
@@ -125,7 +126,7 @@ fn execute_alone<'a, F: Files>(
     }
 }
 
-/// The output of a command, unless that is a run by two or more workers.
+/// The output of a command, unless that is a run by two or more workers or `gen`.
 fn requested_alone<'a, F: Files>(
     alloc: Global,
     files: &mut F,
@@ -144,7 +145,7 @@ fn requested_alone<'a, F: Files>(
         Request::Opt(arguments) => Some(opt_file(alloc, files, arguments)),
         Request::Verilog(arguments) => Some(verilog_file(alloc, files, arguments)),
         Request::Ir(arguments) => Some(ir_design(alloc, files, arguments)),
-        Request::Gen(_) => Some(Err(Refusal::Fault(Fault::Usage))),
+        Request::Gen(_) => None,
     }
 }
 
@@ -155,7 +156,7 @@ fn run_alone<'a, F: Files>(
     arguments: Run<&'a str>,
 ) -> Option<Result<Vec<u8>, Refusal<'a>>>
     ensures { MatchOption result (has_workers (named_run arguments.entry) ≡ true × (files.new ≡ files.old))
-        (IsDone (λ text. text.items) (ExpectedBy (F.told files.old) (λ holds. run_by arguments.how.source holds (named_run arguments.entry))) (run_files (named_run arguments.entry))
+        (IsDone (λ text. text.items) (ExpectedBy (F.told files.old) (λ holds. run_by arguments.entry.how.source holds (named_run arguments.entry))) (run_files (named_run arguments.entry))
         (file_events F.asked F.faults F.taken files.old files.new)) }
 {
     if arguments.how.workers > 1 {
@@ -204,6 +205,6 @@ fn requested<'a, R: Threads + Wait + Sync, F: Files, G: Gate + Sync>(
         Request::Opt(arguments) => opt_file(alloc, files, arguments),
         Request::Verilog(arguments) => verilog_file(alloc, files, arguments),
         Request::Ir(arguments) => ir_design(alloc, files, arguments),
-        Request::Gen(_) => Err(Refusal::Fault(Fault::Usage)),
+        Request::Gen(arguments) => gen_levels(rt, alloc, arguments, gate),
     }
 }

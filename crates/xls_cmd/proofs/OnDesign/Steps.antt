@@ -34,7 +34,7 @@ use Rattle.dslx_meaning.specs.Network.{behaviors_of, network_of}
 use Rattle.dslx_core.specs.Designs.{core_behaviors, core_network}
 use Rattle.dslx_core.specs.declared.design.Design.{Design}
 use Rattle.dslx.specs.declared.count.size.NetworkSize.{NetworkSize}
-use Rattle.dslx_elab.specs.Runs.{IsOfAccepted, RunsText}
+use Rattle.dslx_elab.specs.Runs.{IsAcceptedText, IsMadeOfChecked, IsOfAccepted, RunsText}
 use Rattle.dslx.specs.Texts.{GivesTree, HasCheckedText, HasNetworkSize, RefusesText}
 use Rattle.xls_cmd.specs.Design.Commands.{ReadsInputs, ReadsModule, says, at_fault, check, check_text, run_texts}
 use Rattle.xls_cmd.specs.Design.Inner.{IsDesignRead, IsSizeRead, RunsDesign}
@@ -96,8 +96,10 @@ text_runs m t net behaviors inputs how runs fit few =
     ap (λ (x : Net). outcome_text x (outcome (depths_by how.depth x))) (sym runs.network) ∙ ap (outcome_text net) (runs.outcomes inputs.words how.activations (depths_by how.depth net) fit few)
 
 -- so two of them show the same
-pub design_runs : (design : Design) (net : Net) (behaviors : List Behavior) (is : IsOfAccepted design) → RunsText is.text is.top (core_network design) (core_behaviors design) → RunsText is.text is.top net behaviors → RunsDesign design net behaviors
-design_runs design net behaviors is core runs =
+pub design_runs : (design : Design) (net : Net) (behaviors : List Behavior) (is : IsOfAccepted design) → RunsText is.text is.top (core_network design) (core_behaviors design)
+    → ((m : Module) (t : Option (List ℕ)) → IsAcceptedText m t → IsMadeOfChecked m t design → RunsText m t net behaviors) → RunsDesign design net behaviors
+design_runs design net behaviors is core each =
+    let runs = each is.text is.top is.accepted (record { made = is.made; checked = is.checked }) in
     let same = runs.network ∙ sym core.network in
     record {
       network = same;
@@ -105,6 +107,7 @@ design_runs design net behaviors is core runs =
       of_net = runs.of_net;
       shows = λ inputs how fit few. sym (text_runs is.text is.top net behaviors inputs how runs fit few)
           ∙ text_runs is.text is.top (core_network design) (core_behaviors design) inputs how core (subst (λ n. IsInputs n inputs.words) same fit) few;
+      texts = each;
     }
 
 -- ---- one answer

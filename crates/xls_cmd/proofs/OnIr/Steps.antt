@@ -21,7 +21,7 @@ use Rattle.xls_cmd.specs.Design.Written.{depths_by, run_text}
 use Rattle.ir_tree.specs.declared.package.Package.{Package}
 use Rattle.ir_tree.specs.Networks.{network_of, behaviors_of}
 use Rattle.ir_text.specs.Parser.Texts.{GivesPackage}
-use Rattle.xls_cmd.specs.Ir.Commands.{ReadsPackage, run, run_texts}
+use Rattle.xls_cmd.specs.Ir.Commands.{ReadsPackage, run_texts}
 
 -- ---- reading a package
 

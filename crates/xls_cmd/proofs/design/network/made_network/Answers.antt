@@ -8,4 +8,4 @@ returns-in-Ok c =
     let is = c.requires in
     let design = c.args.design.now in
     design_runs design c.in-Ok.made.net (map behavior_of c.in-Ok.made.bodies.items) is (c.accepted_texts_run.ensures.runs is.text is.top design is.accepted is.made is.checked)
-    (c.in-Ok.ensures.runs is.text is.top is.accepted is.made is.checked)
+    (λ m top accepted from. c.in-Ok.ensures.runs m top accepted from.made from.checked)

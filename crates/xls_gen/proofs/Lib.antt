@@ -1,0 +1,4 @@
+-- events of runs
+-- modules that are fed
+pub mod OnEvents
+pub mod OnFeed

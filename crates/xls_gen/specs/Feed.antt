@@ -1,0 +1,4 @@
+-- a module that is fed with words, and what it gives
+pub mod Feeding
+-- contracts of private functions
+pub mod Inner
