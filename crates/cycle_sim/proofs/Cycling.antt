@@ -388,7 +388,7 @@ shown_same values other at count (d ∷ v ∷ r ∷ rest) room same =
 -- ---- the module can do nothing else
 
 -- what a module does in a cycle is what the simulator does
-now_only : (m : VModule) (indices : List ℕ) (words before : List Word) (row : Row) (held values : Values) → IsRunning m indices words before → IsRowOf m row
+pub now_only : (m : VModule) (indices : List ℕ) (words before : List Word) (row : Row) (held values : Values) → IsRunning m indices words before → IsRowOf m row
     → SameRegisters m (values_of words) held → IsNow m held (given m row) values
     → (s : ℕ) → s < length (signals m) → values s ≡ values_of (evaluated m indices row words) s
 now_only m indices words before row held values running fits same now =

@@ -12,3 +12,4 @@ pub mod RunOrder
 pub mod Making
 pub mod Showing
 pub mod Reading
+pub mod Stillness

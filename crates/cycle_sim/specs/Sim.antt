@@ -11,7 +11,7 @@ use Rattle.vlog_tree.specs.Meaning.{AreDriven}
 use Rattle.vlog_tree.specs.Settled.{values_of, widths_of, AreAllDriven, IsOrdered, IsUndriven}
 use Rattle.vlog_tree.specs.WellFormed.{IsWired}
 use Rattle.vlog_tree.specs.Signals.{declared_widths}
-use Rattle.vlog_tree.specs.Rows.{Runs}
+use Rattle.vlog_tree.specs.Rows.{Runs, outs_of}
 use Rattle.cycle_sim.specs.Ordered.{taken}
 
 -- what callers see of a simulator: the module, and a number for each of its signals. Of a register it is what the
@@ -48,3 +48,9 @@ pub record StandsAfter (now : SimState) (rows : List Row) (outs : List Outs) : T
   pub runs : Runs now.design rows outs held
   pub only : (shown : List Outs) (other : Values) → Runs now.design rows shown other → (shown ≡ outs) × SameRegisters now.design other held
   pub registers : (s : ℕ) (d : Declared) → IsSignal now.design s d → d.role ≡ RegisterSignal → values_of now.words s ≡ held s
+
+-- one more such row leaves the simulator as it is: where the module can stand there, it stands there behind that row too, and shows in
+-- it what it showed in the last one. So it is over any number of such rows
+abbrev pub IsUnchangedBy : SimState → Row → Type 0
+IsUnchangedBy now row = (rows : List Row) (outs : List Outs) → StandsAfter now rows outs
+    → StandsAfter now (rows ++ row ∷ []) (outs ++ outs_of now.design (values_of now.words) ∷ [])

@@ -1,12 +1,12 @@
-ghost use Rattle.std.specs.Prelude.{◌≡◌, ℕ, List, [], ◌∷◌, ◌++◌, ◌+◌, ◌*◌, ◌<◌, length, slice_get, IfOk, if◌then◌else◌};
+ghost use Rattle.std.specs.Prelude.{◌≡◌, ℕ, List, [], ◌∷◌, ◌++◌, ◌+◌, ◌*◌, ◌<◌, length, slice_get, IfOk, IsTrue, ◌↔◌, if◌then◌else◌};
 ghost use Rattle.vlog_tree.specs.WellFormed.{CanRun};
 ghost use Rattle.vlog_tree.specs.Signals.{channels_of};
 ghost use Rattle.vlog_tree.specs.declared.row.Row.{Row};
 ghost use Rattle.vlog_tree.specs.declared.row.Outs.{Outs};
 ghost use Rattle.vlog_tree.specs.Rows.{IsRowOf, shown_channel, outs_of};
 ghost use Rattle.vlog_tree.specs.Settled.{values_of};
-ghost use Rattle.cycle_sim.specs.Sim.{StandsAfter, IsRunning};
-ghost use Rattle.cycle_sim.specs.Stored.{cycled};
+ghost use Rattle.cycle_sim.specs.Sim.{StandsAfter, IsUnchangedBy, SameRegisters, IsRunning};
+ghost use Rattle.cycle_sim.specs.Stored.{cycled, evaluated};
 
 use crate::clock::clock;
 use crate::evaluate::of_bool;
@@ -89,6 +89,28 @@ impl Sim {
             row,
         );
     }
+
+    /// One cycle, in which the outside does what the row says, and whether it left each register with what it held. Then further
+    /// cycles with the same row change nothing.
+    ///
+    /// It takes no memory, and the time of a [`cycle`](Sim::cycle) and of a look at each signal up to the first that changed.
+    pub fn cycle_is_still(&mut self, row: &Row) -> bool
+        requires { IsRowOf self.old.design row.now }
+        ensures design { self.new.design ≡ self.old.design }
+        ensures stands { (rows : List Row) (outs : List Outs) → StandsAfter self.old rows outs →
+            StandsAfter self.new (rows ++ row.now ∷ []) (outs ++ outs_of self.new.design (values_of self.new.words) ∷ []) }
+        ensures same { IsTrue result ↔ SameRegisters self.new.design (values_of self.old.words) (values_of self.new.words) }
+        ensures still { IsTrue result → IsUnchangedBy self.new row.now }
+    {
+        advance(
+            &mut self.values,
+            &mut self.before,
+            &self.design,
+            &self.indices,
+            row,
+        );
+        are_same(&self.before, &self.values)
+    }
 }
 
 /// Takes the numbers of a module's signals through one cycle. `before` is room for them.
@@ -97,12 +119,20 @@ fn advance(values: &mut [Bits], before: &mut [Bits], design: &VModule, indices: 
     requires row { IsRowOf design.now row.now }
     ensures values { values.new ≡ cycled design.now indices.now row.now values.old }
     ensures room { length before.new ≡ length before.old }
+    ensures before { before.new ≡ evaluated design.now indices.now row.now values.old }
 {
     values[1] = of_bool(row.reset);
     give(values, 2, row.channels.as_slice());
     settle(values, design.assignments.as_slice(), indices);
     before.copy_from_slice(values);
     clock(before, values, sets_of(design, row.reset));
+}
+
+/// Whether each signal has the same number in both.
+fn are_same(before: &[Bits], values: &[Bits]) -> bool
+    ensures { IsTrue result ↔ (before.now ≡ values.now) }
+{
+    before == values
 }
 
 /// What the registers take in a cycle with reset, or without.

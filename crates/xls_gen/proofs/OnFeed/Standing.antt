@@ -1,5 +1,5 @@
 -- Where a feeder stands, row by row.
-use Rattle.std.proofs.Common.{◌≡◌, ◌+◌, ℕ, suc, Bool, true, false, eqb, List, [], ◌∷◌, ◌++◌, length, Some, Option, refl, sym, ap, ◌∙◌, subst, arith}
+use Rattle.std.proofs.Common.{◌≡◌, ◌≤◌, ◌+◌, ◌-◌, ℕ, zero, suc, Bool, true, false, eqb, List, [], ◌∷◌, ◌++◌, length, None, Some, Option, refl, sym, ap, ◌∙◌, subst, arith}
 use Rattle.std.specs.Prelude.{slice_get}
 use Rattle.std.proofs.lemmas.List.{length-append}
 use Rattle.std.proofs.lemmas.Option.{slice_get_within}
@@ -10,14 +10,15 @@ use Rattle.vlog_tree.specs.declared.row.Drive.TheVariants.{Offer, Ready}
 use Rattle.vlog_tree.specs.declared.row.Outs.{Outs}
 use Rattle.vlog_tree.specs.declared.row.Row.{Row}
 use Rattle.vlog_tree.specs.declared.row.Shown.{Shown}
-use Rattle.vlog_tree.specs.Rows.{Runs, transferred}
+use Rattle.vlog_tree.specs.Rows.{Runs, outs_of, transferred}
+use Rattle.vlog_tree.specs.Settled.{values_of}
 use Rattle.vlog_tree.specs.Signals.{Channel, channels_of}
 use Rattle.cycle_sim.specs.Cycles.CycleText.{moved_at, one_more}
 use Rattle.cycle_sim.specs.Rows.Said.{directed}
-use Rattle.cycle_sim.specs.Sim.{StandsAfter}
+use Rattle.cycle_sim.specs.Sim.{StandsAfter, IsUnchangedBy}
 use Rattle.xls_gen.specs.declared.feed.feeder.Feeder.{Feeder}
 use Rattle.xls_gen.specs.Feed.Feeding.{Feeds, feeding_drives, feeding_row, is_feedable, moved_through, row_behind, takes_words}
-use Rattle.xls_gen.specs.Feed.Inner.Standing.{HasFed}
+use Rattle.xls_gen.specs.Feed.Inner.Standing.{HasFed, IsAtRest}
 use Rattle.xls_gen.proofs.OnEvents.Adding.{eqb_differs}
 use Rattle.xls_gen.proofs.OnFeed.Channels.{TakesWords, and_both, gives, takes}
 use Rattle.xls_gen.proofs.OnFeed.Drives.{drive_in, drive_out}
@@ -142,6 +143,49 @@ fed_next m input output words old new n h more in_shown out_shown fits design ro
     moved_out =
         moved_step m output h.rows h.outs new.row more (Ready true) out_shown h.shown drives_out shows_out (slice_get_within (channels_of m) output sink.0 sink.1)
         ∙ ap (λ b. moved_at b (Ready true) out_shown (moved_through m output h.rows h.outs)) (ap (λ (r : Row). r.reset) row_is)
+
+-- ---- a module that stands still
+
+-- where no word was added, one more row like it adds none
+none_added : (o : Option Word) (old new : List Word) → new ≡ one_more o old → length new ≡ length old → new ≡ one_more o new
+none_added None old new e same = refl
+none_added (Some w) old new e same = absurd (omega (arith, ap length e, length-append old (w ∷ []), same))
+
+-- a row in which no word went through, and under which the simulator stands still, may come once more
+pub fed_again : (input output : ℕ) (words : List Word) (old new : Feeder) (in_shown out_shown : Shown) → is_feedable new.sim.design input output words ≡ true
+    → new.sim.design ≡ old.sim.design → new.row ≡ feeding_row old.sim.design input false (slice_get words old.taken) → IsUnchangedBy new.sim new.row
+    → slice_get (outs_of new.sim.design (values_of new.sim.words)).channels input ≡ Some in_shown
+    → slice_get (outs_of new.sim.design (values_of new.sim.words)).channels output ≡ Some out_shown
+    → new.taken ≡ old.taken + length (one_more (transferred (Offer (slice_get words old.taken)) in_shown) [])
+    → new.given ≡ one_more (transferred (Ready true) out_shown) old.given
+    → new.taken ≡ old.taken → length new.given ≡ length old.given → IsAtRest input output words new
+fed_again input output words old new in_shown out_shown fits design row still shows_in shows_out taken given same_taken same_given m n h =
+    fed_next m input output words new new n h (outs_of new.sim.design (values_of new.sim.words)) in_shown out_shown
+    (subst (λ d. is_feedable d input output words ≡ true) h.design_is fits) refl same_row (still h.rows h.outs h.stands) shows_in shows_out
+    (subst (λ t. new.taken ≡ t + length (one_more (transferred (Offer (slice_get words t)) in_shown) [])) (sym same_taken) taken)
+    (none_added (transferred (Ready true) out_shown) old.given new.given given same_given)
+  where
+    same_row : new.row ≡ feeding_row new.sim.design input false (slice_get words new.taken)
+    same_row =
+        row
+        ∙ ap (λ d. feeding_row d input false (slice_get words old.taken)) (sym design)
+        ∙ ap (λ t. feeding_row new.sim.design input false (slice_get words t)) (sym same_taken)
+
+rests_on : (m : VModule) (input output : ℕ) (words : List Word) (feeder : Feeder) (n k : ℕ) → IsAtRest input output words feeder → HasFed m input output words feeder (suc n)
+    → HasFed m input output words feeder (suc (n + k))
+rests_on m input output words feeder n zero rests h =
+    let same : n ≡ n + 0 = omega arith in
+    subst (λ count. HasFed m input output words feeder (suc count)) same h
+rests_on m input output words feeder n (suc k) rests h =
+    let same : suc n + k ≡ n + suc k = omega arith in
+    subst (λ count. HasFed m input output words feeder (suc count)) same (rests_on m input output words feeder (suc n) k rests (rests m n h))
+
+-- a feeder at rest has fed its module for any number of further rows
+pub rests_until : (m : VModule) (input output : ℕ) (words : List Word) (feeder : Feeder) (n count : ℕ) → IsAtRest input output words feeder → HasFed m input output words feeder (suc n)
+    → n ≤ count → HasFed m input output words feeder (suc count)
+rests_until m input output words feeder n count rests h within =
+    let same : n + (count - n) ≡ count = omega (arith, within) in
+    subst (λ c. HasFed m input output words feeder (suc c)) same (rests_on m input output words feeder n (count - n) rests h)
 
 -- behind the last row
 pub feeds : (m : VModule) (input output : ℕ) (words : List Word) (feeder : Feeder) (count : ℕ) → HasFed m input output words feeder (suc count) → Feeds m input output words count feeder.given

@@ -1,6 +1,6 @@
 //! Feeding a module row by row.
 
-ghost use Rattle.std.specs.Prelude.{◌≡◌, ◌+◌, ◌++◌, ◌∷◌, [], ℕ, suc, true, List, Option, length, slice_get, IfOk, OnOk};
+ghost use Rattle.std.specs.Prelude.{◌≡◌, ◌+◌, ◌++◌, ◌∷◌, ◌↔◌, [], ℕ, suc, true, List, Option, length, slice_get, IfOk, IsTrue, OnOk};
 ghost use Rattle.xb_bits.specs.Word.{Word};
 ghost use Rattle.vlog_tree.specs.declared.module.VModule.{VModule as AnyModule};
 ghost use Rattle.vlog_tree.specs.declared.row.Drive.TheVariants as drives;
@@ -11,9 +11,9 @@ ghost use Rattle.vlog_tree.specs.Settled.{values_of};
 ghost use Rattle.vlog_tree.specs.Signals.{channels_of};
 ghost use Rattle.vlog_tree.specs.WellFormed.{CanRun};
 ghost use Rattle.cycle_sim.specs.Cycles.CycleText.{one_more};
-ghost use Rattle.cycle_sim.specs.Sim.{StandsAfter};
+ghost use Rattle.cycle_sim.specs.Sim.{StandsAfter, IsUnchangedBy};
 ghost use Rattle.xls_gen.specs.Feed.Feeding.{Feeds, feeding_drives, feeding_row, is_feedable, takes_words};
-ghost use Rattle.xls_gen.specs.Feed.Inner.Standing.{HasFed};
+ghost use Rattle.xls_gen.specs.Feed.Inner.Standing.{HasFed, IsAtRest};
 
 use crate::feed::ports::idle_drives;
 use cycle_sim::Sim;
@@ -26,7 +26,8 @@ use xb_bits::Bits;
 /// so many rows behind one that resets. Every output is ready in each row, and nothing is offered at the other inputs.
 /// [`can_be_fed`](crate::feed::can_be_fed) tests the channels and the words.
 ///
-/// Each row takes the time that the simulator takes for a cycle, and no memory but that of a word that is given.
+/// Each row takes the time that the simulator takes for a cycle, and no memory but that of a word that is given. Behind a row in which
+/// no word went through and no register changed all further rows are the same: they take no time.
 pub fn feed(
     alloc: Global,
     design: VModule,
@@ -45,7 +46,7 @@ pub fn feed(
     Ok(feeder.given)
 }
 
-/// So many rows behind the one that resets.
+/// So many rows behind the one that resets. It ends at the first one behind which no row changes anything.
 fn feed_rows(
     feeder: &mut Feeder,
     input: usize,
@@ -58,7 +59,9 @@ fn feed_rows(
     ensures { OnOk result (HasFed feeder.old.sim.design input output words.now feeder.new (suc rows)) }
 {
     'rows: for _row in 0..rows {
-        feeder.cycle(input, output, words)?;
+        if feeder.cycle(input, output, words)? {
+            return Ok(());
+        }
     }
     Ok(())
 }
@@ -103,33 +106,44 @@ impl Feeder {
         self.drive(input, words, true);
     }
 
-    /// A row behind it.
-    fn cycle(&mut self, input: usize, output: usize, words: &[Bits]) -> Result<(), AllocError>
+    /// A row behind it, and whether it is known that no further row changes anything.
+    fn cycle(&mut self, input: usize, output: usize, words: &[Bits]) -> Result<bool, AllocError>
         requires fits { is_feedable self.old.sim.design input output words.now ≡ true }
         requires fed { (n : ℕ) × HasFed self.old.sim.design input output words.now self.old (suc n) }
-        ensures { OnOk result ((m : AnyModule) (n : ℕ) → HasFed m input output words.now self.old (suc n) → HasFed m input output words.now self.new (suc (suc n))) }
+        ensures fed { IfOk result (λ rests. (m : AnyModule) (n : ℕ) → HasFed m input output words.now self.old (suc n) → HasFed m input output words.now self.new (suc (suc n))) }
+        ensures rests { IfOk result (λ rests. IsTrue rests → IsAtRest input output words.now self.new) }
     {
-        self.drive(input, words, false);
+        let taken = self.taken;
+        let given = self.given.len();
+        let still = self.drive(input, words, false);
         self.taken = taken_behind(self.taken, words, self.sim.shown(input));
         push_given(&mut self.given, self.sim.shown(output))?;
-        Ok(())
+        Ok(still && self.has_counts(taken, given))
     }
 
-    /// One row, in which the next word is offered.
-    fn drive(&mut self, input: usize, words: &[Bits], reset: bool)
+    /// Whether so many words are taken, and so many given.
+    fn has_counts(&self, taken: usize, given: usize) -> bool
+        ensures { IsTrue result ↔ ((self.now.taken ≡ taken) × (length self.now.given ≡ given)) }
+    {
+        self.taken == taken && self.given.len() == given
+    }
+
+    /// One row, in which the next word is offered, and whether it changed no register.
+    fn drive(&mut self, input: usize, words: &[Bits], reset: bool) -> bool
         requires fits { takes_words (slice_get (channels_of self.old.sim.design) input) words.now ≡ true }
         requires drives { (offered : Option Word) × (self.old.row.channels ≡ feeding_drives input offered (channels_of self.old.sim.design)) }
         ensures design { self.new.sim.design ≡ self.old.sim.design }
         ensures row { self.new.row ≡ feeding_row self.old.sim.design input reset (slice_get words.now self.old.taken) }
         ensures stands { (rows : List AnyRow) (outs : List Outs) → StandsAfter self.old.sim rows outs →
             StandsAfter self.new.sim (rows ++ self.new.row ∷ []) (outs ++ outs_of self.new.sim.design (values_of self.new.sim.words) ∷ []) }
+        ensures still { IsTrue result → IsUnchangedBy self.new.sim self.new.row }
         ensures taken { self.new.taken ≡ self.old.taken }
         ensures given { self.new.given ≡ self.old.given }
     {
         let offered = next_word(words, self.taken);
         self.row.reset = reset;
         self.row.channels.set(input, Drive::Offer(offered));
-        self.sim.cycle(&self.row);
+        self.sim.cycle_is_still(&self.row)
     }
 }
 

@@ -1,5 +1,5 @@
 -- Where a feeder stands between two rows.
-use Rattle.std.specs.Prelude.{◌≡◌, ℕ, List, length, true, Option, None}
+use Rattle.std.specs.Prelude.{◌≡◌, ℕ, suc, List, length, true, Option, None}
 use Rattle.xb_bits.specs.Word.{Word}
 use Rattle.vlog_tree.specs.declared.module.Direction.{Direction}
 use Rattle.vlog_tree.specs.declared.module.Direction.TheVariants.{Input, Output}
@@ -32,3 +32,7 @@ pub record HasFed (m : VModule) (input output : ℕ) (words : List Word) (feeder
   pub row_is : feeder.row.channels ≡ feeding_drives input offered (channels_of m)
   pub taken_is : feeder.taken ≡ length (moved_through m input rows outs)
   pub given_is : feeder.given ≡ moved_through m output rows outs
+
+-- behind the row that resets, one more row leaves the feeder as it is. So does any number of rows
+abbrev pub IsAtRest : ℕ → ℕ → List Word → Feeder → Type 0
+IsAtRest input output words feeder = (m : VModule) (n : ℕ) → HasFed m input output words feeder (suc n) → HasFed m input output words feeder (suc (suc n))

@@ -1,6 +1,6 @@
 use Rattle.std.proofs.Common.{◌≡◌, add-one, arith, suc, subst, sym}
 use Rattle.xls_gen.specs.Feed.Inner.Standing.{HasFed}
-use Rattle.xls_gen.proofs.OnFeed.Standing.{at_design, feedable_at}
+use Rattle.xls_gen.proofs.OnFeed.Standing.{at_design, feedable_at, rests_until}
 use Rattle.xls_gen.proofs.feed.feeder.feed_rows.Goals as goal
 
 pub cycle-requires-clause-fits : goal.cycle-requires-clause-fits
@@ -12,7 +12,12 @@ cycle-requires-clause-fed c = (c.rows._row, at_design c.args.feeder.now.sim.desi
 pub rows-preserved : goal.rows-preserved
 rows-preserved c =
     subst (λ n. HasFed c.args.feeder.now.sim.design c.args.input c.args.output c.args.words.now c.cycle.new.self (suc n)) (sym (add-one c.rows._row))
-    (c.in_ok-cycle.ensures c.args.feeder.now.sim.design c.rows._row c.rows.invariant)
+    (c.in_ok-cycle.ensures.fed c.args.feeder.now.sim.design c.rows._row c.rows.invariant)
+
+pub returns-then-branch : goal.returns-then-branch
+returns-then-branch c =
+    rests_until c.args.feeder.now.sim.design c.args.input c.args.output c.args.words.now c.cycle.new.self (suc c.rows._row) c.args.rows (c.in_ok-cycle.ensures.rests c.if-branch.true)
+    (c.in_ok-cycle.ensures.fed c.args.feeder.now.sim.design c.rows._row c.rows.invariant) (omega arith)
 
 pub returns : goal.returns
 returns c =
