@@ -101,6 +101,10 @@ def over(found, words, text):
 def infeasible(found, words, text):
     row = row_in(['schedule causes'], CAUSES[found['key']])
     proc, node = (os.fsencode(it or '') for it in (found['proc'], found['node']))
+    if language(words) == 'language':
+        # (a design has no nodes; a path begins with its top)
+        told = ' '.join(filter(None, (found['proc'] if '.' in found['proc'] else '', found['node'], found['told'])))
+        return Refusal('infeasible', row[1], outside_comments(text or b'', b'proc%s+(%s)(?!\\w)' % (GAP, re.escape(proc.split(b'.')[0])), 0), told)
     return Refusal('infeasible', row[1], definition(text or b'', proc, node), found['told'])
 
 
