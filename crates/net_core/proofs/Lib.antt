@@ -10,6 +10,7 @@ pub mod Shown
 pub mod Events
 pub mod Asked
 pub mod Falls
+pub mod Kept
 pub mod Starts
 pub mod Bodies
 pub mod Receives

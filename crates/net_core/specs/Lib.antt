@@ -12,6 +12,8 @@ pub mod Outcomes
 pub mod WellFormed
 -- what a configuration of the machine shows
 pub mod Shows
+-- what is kept of an activation that is open
+pub mod Keeps
 -- what a proc's next event can be
 pub mod Nexts
 -- what can be known of a cut by counts alone

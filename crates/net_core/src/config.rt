@@ -2,6 +2,7 @@ ghost use Rattle.std.specs.Prelude.{◌≡◌, map, length, IfOk};
 ghost use Rattle.base.specs.Lists.Indexed.{indexed};
 ghost use Rattle.net_core.specs.Inner.Making.{opened_progress, filled_channel, end_with, stream_in};
 
+use crate::activation::Activation;
 use crate::body::Body;
 use crate::channel::Channel;
 use crate::event::Event;
@@ -89,13 +90,14 @@ impl Config {
     ghost use Rattle.net_core.specs.declared.net.Site.{Site};
     ghost use Rattle.net_core.specs.declared.progress.Progress.{Progress};
     ghost use Rattle.net_core.specs.Inner.Making.{has_word, has_room, SiteData, IsSiteData};
-    ghost use Rattle.net_core.specs.Inner.Making.{IsReceiveMade, IsSendMade, IsEndMade, TriesReceive, TriesSend, IsStandingFor, CanMake, TriesEvent};
+    ghost use Rattle.net_core.specs.Inner.Making.{IsReceiveMade, IsSendMade, IsEndMade, TriesReceive, TriesSend, IsStandingFor, CanMake, TriesEvent, EndsWith};
     ghost use Rattle.base.specs.Lists.Indexed.{indexed};
     ghost use Rattle.net_core.specs.Outcomes.{outcome_of, stall_in, behaviors_of};
     ghost use Rattle.net_core.specs.Behavior.{Behavior};
     ghost use Rattle.net_core.specs.Cuts.{Run, Cut, empty_cut};
     ghost use Rattle.net_core.specs.WellFormed.{IsNet, IsInputs, IsDepths, AreBehaviorsOf, EachKeepsTypes, run_of};
     ghost use Rattle.net_core.specs.Machine.{goes, stepped};
+    ghost use Rattle.net_core.specs.Keeps.{KeepsFor};
     ghost use Rattle.net_core.specs.Shows.{Shows, IsAskedWith, IsBehaviorOf, WhereAsked, IsRunWith, WhereRun, IsUnchanged, events_left};
 
     /// The run of a network before its first event, with at most `n` activations of each proc.
@@ -131,28 +133,37 @@ impl Config {
         if progress.ends() >= self.activations {
             return Ok(false);
         }
-        let event = progress.next(alloc, body)?;
+        let event = progress.next(alloc, body, &mut Activation::new(alloc))?;
         Ok(self.can_make(p as usize, &event))
     }
 
     /// Makes the next event of proc `p`, whose body this is, if it can go, and says whether it did.
     ///
     /// It answers false exactly where the proc is done or its next event waits. After want of memory nothing has
-    /// changed. It costs one call of `next`, and no more where much came before.
-    pub fn step<B: Body>(&mut self, alloc: Global, p: u32, body: &B) -> Result<bool, AllocError>
-        requires { IsAskedWith self.old p (B.behavior body.now) }
+    /// changed. It costs one call of `next`, and no more where much came before. `kept` is what was worked out of the activation
+    /// in which the proc stands: while the proc goes on with it, each step of an activation is worked out once.
+    pub fn step<B: Body>(
+        &mut self,
+        alloc: Global,
+        p: u32,
+        body: &B,
+        kept: &mut Activation,
+    ) -> Result<bool, AllocError>
+        requires asked { IsAskedWith self.old p (B.behavior body.now) }
+        requires keeps { KeepsFor (B.keeps body.now kept.old) self.old p }
         ensures ok { IfOk result (λ made. WhereAsked self.old p (B.behavior body.now) (λ run cut.
             (made ≡ goes run cut p) × Shows run (stepped run cut p) self.new)) }
         ensures falls { IfOk result (λ made.
             MatchBool made (events_left self.new < events_left self.old) (IsUnchanged self.old self.new)) }
         ensures err { OnErr result (IsUnchanged self.old self.new) }
+        ensures keeps { KeepsFor (B.keeps body.now kept.new) self.new p }
     {
         let progress = &self.procs[p as usize];
         if progress.ends() >= self.activations {
             return Ok(false);
         }
-        let event = progress.next(alloc, body)?;
-        self.try_event(alloc, p as usize, event)
+        let event = progress.next(alloc, body, kept)?;
+        self.try_event(alloc, p as usize, event, kept)
     }
 
     /// What the run has come to, with the bodies of its procs in order.
@@ -194,7 +205,7 @@ impl Config {
         if progress.ends() >= self.activations {
             return Ok(None);
         }
-        let event = progress.next(alloc, body)?;
+        let event = progress.next(alloc, body, &mut Activation::new(alloc))?;
         Ok(progress.stall_at(&event))
     }
 
@@ -210,17 +221,25 @@ impl Config {
         }
     }
 
-    /// A proc makes this event, if it can.
-    fn try_event(&mut self, alloc: Global, p: usize, event: Event) -> Result<bool, AllocError>
+    /// A proc makes this event, if it can. At the end of an activation nothing is kept of it.
+    fn try_event(
+        &mut self,
+        alloc: Global,
+        p: usize,
+        event: Event,
+        kept: &mut Activation,
+    ) -> Result<bool, AllocError>
         requires { IsStandingFor self.old p event }
         ensures ok { IfOk result (λ made. TriesEvent self.old self.new p event made) }
         ensures err { OnErr result (IsUnchanged self.old self.new) }
+        ensures kept { EndsWith event kept.old kept.new }
     {
         match event {
             Event::Recv(site) => self.try_receive(p, site),
             Event::Send(site, word) => self.try_send(p, site, word),
             Event::End(state) => {
                 self.end(alloc, p, state);
+                kept.clear();
                 Ok(true)
             }
         }

@@ -1,6 +1,7 @@
 //! Networks of procs, the outcome of a run, and the machine that makes the events of a run one at a time.
 #![tactic(auto)]
 
+mod activation;
 mod body;
 mod channel;
 mod config;
@@ -10,6 +11,7 @@ mod net;
 mod outcome;
 mod progress;
 
+pub use activation::Activation;
 pub use base::texts::Name;
 pub use body::Body;
 pub use config::Config;

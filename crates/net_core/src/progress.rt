@@ -1,3 +1,4 @@
+use crate::activation::Activation;
 use crate::body::Body;
 use crate::event::Event;
 use crate::net::{ProcHead, Site};
@@ -52,11 +53,18 @@ impl Progress {
     }
 
     /// The next event, by the proc's body.
-    pub(crate) fn next<B: Body>(&self, alloc: Global, body: &B) -> Result<Event, AllocError>
-        requires { IsOpen (B.behavior body.now) self.now.state self.now.got self.now.done }
-        ensures { IfOk result (λ event. event ≡ next_event (B.behavior body.now) self.now.state self.now.got self.now.done) }
+    pub(crate) fn next<B: Body>(
+        &self,
+        alloc: Global,
+        body: &B,
+        kept: &mut Activation,
+    ) -> Result<Event, AllocError>
+        requires stands { IsOpen (B.behavior body.now) self.now.state self.now.got self.now.done }
+        requires keeps { B.keeps body.now kept.old self.now.state self.now.got self.now.done }
+        ensures event { IfOk result (λ event. event ≡ next_event (B.behavior body.now) self.now.state self.now.got self.now.done) }
+        ensures keeps { B.keeps body.now kept.new self.now.state self.now.got self.now.done }
     {
-        body.next(alloc, &self.state, self.got.as_slice(), self.done)
+        body.next(alloc, kept, &self.state, self.got.as_slice(), self.done)
     }
 
     /// What the proc waits for where this event comes next.

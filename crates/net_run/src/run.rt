@@ -6,13 +6,14 @@ ghost use Rattle.net_core.specs.WellFormed.{IsNet, IsInputs, IsDepths, IsOutcome
 ghost use Rattle.net_core.specs.Shows.{Shows, IsAskedWith, WhereAsked, IsRunWith, WhereRun, events_left};
 ghost use Rattle.net_run.specs.Rounds.{Advances, AllAdvance};
 
-use net_core::{Body, Config, Inputs, Net, Outcome};
+use net_core::{Activation, Body, Config, Inputs, Net, Outcome};
 use std::alloc::{AllocError, Global};
 
 /// Runs a network in which each proc makes at most `n` activations, until no proc can go.
 ///
 /// It goes round the procs, each of which makes all events that it can, and ends with a round without an event. So it
-/// asks the bodies once for each event, and at most once more for each proc in each round.
+/// asks the bodies once for each event, and at most once more for each proc in each round. A body works each step of an
+/// activation out at most once in a round.
 pub fn run_one<B: Body>(
     alloc: Global,
     net: &Net,
@@ -61,7 +62,8 @@ fn round<B: Body>(alloc: Global, config: &mut Config, bodies: &[B]) -> Result<bo
     Ok(moved)
 }
 
-/// A proc makes all events that it can, and the answer is whether there was one.
+/// A proc makes all events that it can, and the answer is whether there was one. Each step of an activation is worked out
+/// once.
 fn advance<B: Body>(
     alloc: Global,
     config: &mut Config,
@@ -74,8 +76,9 @@ fn advance<B: Body>(
     ensures falls { IfOk result (λ moved.
         MatchBool moved (events_left config.new < events_left config.old) (events_left config.new ≡ events_left config.old)) }
 {
+    let mut kept = Activation::new(alloc);
     let mut went = false;
-    while config.step(alloc, p, body)? {
+    while config.step(alloc, p, body, &mut kept)? {
         went = true;
     }
     Ok(went)

@@ -14,6 +14,8 @@ use Rattle.net_core.specs.declared.outcome.Stall.{Stall}
 use Rattle.net_core.specs.declared.config.Config.{Config}
 use Rattle.net_core.specs.declared.progress.Progress.{Progress}
 use Rattle.net_core.specs.declared.channel.Channel.{Channel}
+use Rattle.net_core.specs.declared.activation.Activation.{Activation}
+use Rattle.net_core.specs.Keeps.{IsNothing}
 use Rattle.net_core.specs.Shows.{IsUnchanged}
 
 -- a proc before its first activation
@@ -119,3 +121,9 @@ abbrev pub TriesEvent : Config → Config → ℕ → Event → Bool → Type 0
 TriesEvent old new p (Recv i) made = (here : SiteData) → IsSiteData old p i here → TriesReceive old new p i here made
 TriesEvent old new p (Send i w) made = (here : SiteData) → IsSiteData old p i here → TriesSend old new p i here w made
 TriesEvent old new p (End s) made = (made ≡ true) × ((progress : Progress) → slice_get old.procs.items p ≡ Some progress → IsEndMade old new p progress s)
+
+-- what is kept of an activation stays, unless the event is its end
+abbrev pub EndsWith : Event → Activation → Activation → Type 0
+EndsWith (Recv i) old new = new ≡ old
+EndsWith (Send i w) old new = new ≡ old
+EndsWith (End s) old new = IsNothing new

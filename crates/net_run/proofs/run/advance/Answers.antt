@@ -1,8 +1,15 @@
 use Rattle.std.proofs.lemmas.Bool.{MatchBool-at_true, MatchBool-at_false}
-use Rattle.std.proofs.Common.{sym, ◌∙◌}
+use Rattle.std.proofs.Common.{refl, sym, ◌∙◌}
 use Rattle.net_core.specs.Machine.{stepped}
 use Rattle.net_run.proofs.Going.{shows_some, events_same, falls_on, falls_same, advances_end}
 use Rattle.net_run.proofs.run.advance.Goals as goal
+
+pub loop-went-init : goal.loop-went-init
+loop-went-init g c = (
+  λ run cut sh is. sh,
+  refl,
+  λ progress e. g.met.B.Body.begins c.args.body.now c.new-kept.result progress.state progress.got progress.done c.new-kept.ensures,
+)
 
 pub loop-went-preserved : goal.loop-went-preserved
 loop-went-preserved g c = (
@@ -11,6 +18,7 @@ loop-went-preserved g c = (
       let made = c.in_ok-step.ensures.ok run since.0 since.1 is in
       (stepped run since.0 c.args.p, made.1),
   falls_on c.loop-went.went _ _ _ c.loop-went.invariant.1 (MatchBool-at_true _ _ c.if-branch.true c.in_ok-step.ensures.falls),
+  c.step.ensures.keeps,
 )
 
 pub returns-clause-advances : goal.returns-clause-advances

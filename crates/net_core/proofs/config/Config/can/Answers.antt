@@ -9,12 +9,15 @@ returns-then-ends-self g c run cut sh is =
     let done : c.args.self.now.activations ≤ progress.ends = omega (arith, c.if-ends-self.true, c.ends.ensures) in
     (asked_done run cut c.args.self.now sh c.args.p _ is progress here done).0
 
-pub next-requires : goal.next-requires
-next-requires g c =
+pub next-requires-clause-stands : goal.next-requires-clause-stands
+next-requires-clause-stands g c =
     let r = c.requires in
     let progress = c.index-progress.result.now in
     let here = progress_here r.0 r.1 c.args.self.now r.2 c.args.p _ r.3 progress c.index-progress.ensures in
     asked_open r.0 r.1 c.args.self.now r.2 c.args.p _ r.3 progress here
+
+pub next-requires-clause-keeps : goal.next-requires-clause-keeps
+next-requires-clause-keeps g c = g.met.B.Body.begins c.args.body.now _ _ _ _ c.new.ensures
 
 pub can_make-requires : goal.can_make-requires
 can_make-requires g c =
@@ -24,7 +27,7 @@ can_make-requires g c =
     let active : progress.ends < c.args.self.now.activations = omega (arith, c.if-ends-self.false, c.ends.ensures) in
     asked_stands r.0 r.1 c.args.self.now r.2 c.args.p _ r.3 c.in_ok-event.event
     (asked_active r.0 r.1 c.args.self.now r.2 c.args.p _ r.3 progress here active)
-    (asked_next r.0 r.1 c.args.p _ r.3 progress c.in_ok-event.event here c.in_ok-event.ensures)
+    (asked_next r.0 r.1 c.args.p _ r.3 progress c.in_ok-event.event here c.in_ok-event.ensures.event)
 
 pub returns : goal.returns
 returns g c run cut sh is =
@@ -33,4 +36,4 @@ returns g c run cut sh is =
     let active : progress.ends < c.args.self.now.activations = omega (arith, c.if-ends-self.false, c.ends.ensures) in
     asked_can run cut c.args.self.now sh c.args.p _ is c.in_ok-event.event c.can_make.result
     (asked_active run cut c.args.self.now sh c.args.p _ is progress here active)
-    (asked_next run cut c.args.p _ is progress c.in_ok-event.event here c.in_ok-event.ensures) c.can_make.ensures
+    (asked_next run cut c.args.p _ is progress c.in_ok-event.event here c.in_ok-event.ensures.event) c.can_make.ensures
