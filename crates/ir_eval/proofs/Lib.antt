@@ -1,4 +1,5 @@
 pub mod Cases
+pub mod Kept
 mod OneMore
 pub mod WalkSteps
 -- the same meaning, the same outcomes

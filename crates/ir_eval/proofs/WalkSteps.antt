@@ -1,5 +1,5 @@
 -- An activation of a proc, node by node.
-use Rattle.std.proofs.Common.{◌≡◌, ℕ, zero, suc, ◌<◌, ◌≤◌, max, List, [], ◌∷◌, ◌++◌, drop, get_or, refl, sym, ap, ◌∙◌, arith, Bool, true, false, Option, subst}
+use Rattle.std.proofs.Common.{◌≡◌, ℕ, zero, suc, ◌<◌, ◌≤◌, max, List, [], ◌∷◌, ◌++◌, drop, take, get_or, refl, sym, ap, ◌∙◌, arith, Bool, true, false, Option, subst}
 use Rattle.std.specs.Prelude.{if◌then◌else◌, ◌&&◌, nat_le}
 use Rattle.std.proofs.lemmas.Bool.Decides.{nat_tests}
 use Rattle.std.proofs.Common.{⊎_elim}
@@ -20,6 +20,7 @@ use Rattle.ir_tree.specs.Constants.{no_value}
 use Rattle.ir_tree.specs.NodeValues.{role_of, Setting, operand_value, is_on, received, pure_value, no_word, next_site, role_value, values_from, node_values}
 use Rattle.ir_eval.specs.Inner.Stands.{StandsBehind}
 use Rattle.ir_tree.specs.Activations.{sites_by, sites_of, sent_by, turns_by, turns_from, first_word, words_from, setting_of, turns_of, activation}
+pub use Rattle.ir_eval.specs.Inner.Kept.{moved, stands_first}
 
 -- ---- a list from a place on
 
@@ -60,19 +61,6 @@ event_at b s got i sites (Give w) = Send i w
 events_are : (b : Behavior) (s : Value) (got : List Word) (i : ℕ) (site : Site) (sites : List Site) → event_from b s got i (site ∷ sites) ≡ event_at b s got i sites (b.turn s got i)
 unfolding event_from event_at
 events_are b s got i site sites = refl
-
-pub stands_first : (channels : List Channel) (proc : Proc) (s : Value) (got : List Word) (done : ℕ) → StandsBehind channels proc s got done [] 0 0 proc.nodes
-unfolding next_event activation
-stands_first channels proc s got done = record { values_are = refl; words_left = refl; turns_left = refl; sites_left = refl; event = first }
-  where
-    same : max done 0 ≡ done
-    same = omega arith
-
-    opened : next_event (activation channels proc) s got done ≡ event_from (activation channels proc) s got done (drop done (sites_of proc.nodes))
-    opened = refl
-
-    first : next_event (activation channels proc) s got done ≡ event_from (activation channels proc) s got (max done 0) (drop (max done 0) (sites_of proc.nodes))
-    first = opened ∙ ap (λ j. event_from (activation channels proc) s got j (drop j (sites_of proc.nodes))) (sym same)
 
 -- the values and turns behind a node, by its role
 values_at : (m : Setting) (values : List Value) (i : ℕ) (n : Node) (ns : List Node) (r : Role) → role_of n ≡ r → values_from m values i (n ∷ ns) ≡ values_from m (values ++ role_value m values i n r ∷ []) (next_site i r) ns
@@ -292,14 +280,6 @@ end_next channels proc s got done values site taken st =
     ended : event_from (activation channels proc) s got (max done site) [] ≡ End (operand_value s (node_values (setting_of channels proc.nodes s got) proc.nodes) proc.next)
     ended = refl
 
--- ---- the same in other words
-
-pub moved : (channels : List Channel) (proc : Proc) (s : Value) (got : List Word) (done : ℕ) (vs ws : List Value) (i j k m : ℕ) (left : List Node) → ws ≡ vs → j ≡ i → m ≡ k → StandsBehind channels proc s got done vs i k left → StandsBehind channels proc s got done ws j m left
-moved channels proc s got done vs ws i j k m left e f g st =
-    subst (λ x. StandsBehind channels proc s got done x j m left) (sym e)
-    (subst (λ x. StandsBehind channels proc s got done vs x m left) (sym f)
-    (subst (λ x. StandsBehind channels proc s got done vs i x left) (sym g) st))
-
 pub off_or_past : (on : Bool) (done site : ℕ) → (on && nat_le done site) ≡ false → done ≤ site → on ≡ false
 off_or_past true done site e h = absurd (grind (arith, nat_tests))
 off_or_past false done site e h = refl
@@ -307,3 +287,24 @@ off_or_past false done site e h = refl
 pub on_and_past : (on : Bool) (done site : ℕ) → (on && nat_le done site) ≡ true → (on ≡ true) × (done ≤ site)
 on_and_past true done site e = (refl, grind (arith, nat_tests))
 on_and_past false done site e = absurd (cc)
+
+-- ---- words that are the same as far as they were taken
+
+pub took : (i j : ℕ) (xs ys : List Word) → i ≤ j → take j xs ≡ take j ys → take i xs ≡ take i ys
+took zero j xs ys h e = refl
+took (suc i) zero xs ys h e = absurd (omega arith)
+took (suc i) (suc j) [] [] h e = refl
+took (suc i) (suc j) [] (y ∷ ys) h e = absurd (cc)
+took (suc i) (suc j) (x ∷ xs) [] h e = absurd (cc)
+took (suc i) (suc j) (x ∷ xs) (y ∷ ys) h e =
+    let first : x ≡ y = cc in
+    let rest : take j xs ≡ take j ys = cc in
+    ap (λ w. w ∷ take i xs) first ∙ ap (λ ws. y ∷ ws) (took i j xs ys (omega arith) rest)
+
+-- the next one is the same
+pub took_next : (i : ℕ) (xs ys : List Word) → take (suc i) xs ≡ take (suc i) ys → first_word (drop i xs) ≡ first_word (drop i ys)
+took_next i [] [] e = refl
+took_next i [] (y ∷ ys) e = absurd (cc)
+took_next i (x ∷ xs) [] e = absurd (cc)
+took_next zero (x ∷ xs) (y ∷ ys) e = let first : x ≡ y = cc in first
+took_next (suc i) (x ∷ xs) (y ∷ ys) e = let rest : take (suc i) xs ≡ take (suc i) ys = cc in took_next i xs ys rest

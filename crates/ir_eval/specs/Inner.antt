@@ -1,2 +1,4 @@
+pub mod Keeps
+pub mod Kept
 pub mod Stands
 pub mod Walks

@@ -5,7 +5,7 @@ ghost use Rattle.ir_tree.proofs.Lemmas.Rules.Typed.{keeps_types};
 
 use crate::walk::Walk;
 use ir_tree::{Package, Proc};
-use net_core::{Body, Event};
+use net_core::{Activation, Body, Event};
 use std::alloc::{AllocError, Global};
 use xb_bits::Bits;
 use xb_value::Value;
@@ -43,27 +43,43 @@ impl<'a> IrBody<'a> {
 
 impl Body for IrBody<'_> {
     ghost use Rattle.ir_eval.specs.IrBodies.{behavior_of};
+    ghost use Rattle.ir_eval.specs.Inner.Keeps.{KeepsWalk};
+    ghost use Rattle.ir_eval.specs.Inner.Kept.{keeps_begin, keeps_stay};
 
     ghost behavior = { behavior_of };
 
-    /// The nodes up to the event are evaluated, once each.
+    ghost keeps = { λ body kept. KeepsWalk body.ir.now.channels body.proc.now kept };
+
+    /// The nodes up to the event are evaluated, once an activation.
     fn next(
         &self,
         alloc: Global,
+        kept: &mut Activation,
         state: &Value,
         got: &[Bits],
         done: u32,
     ) -> Result<Event, AllocError> {
         let channels = self.ir.channels.as_slice();
-        let mut walk = Walk::new(alloc);
-        'nodes: for node in self.proc.nodes.as_slice() {
-            match walk.step(alloc, channels, state, got, done, node)? {
+        let nodes = self.proc.nodes.as_slice();
+        let steps = kept.steps;
+        let mut walk = Walk::resume(alloc, kept);
+        'nodes: for number in steps..nodes.len() {
+            match walk.step(alloc, channels, state, got, done, &nodes[number])? {
                 None => {}
-                Some(event) => return Ok(event),
+                Some(event) => {
+                    if walk.taken <= got.len() {
+                        walk.keep(kept, number);
+                    }
+                    return Ok(event);
+                }
             }
         }
         walk.end(alloc, state, self.proc.next)
     }
+
+    ghost begins = { λ body kept state got done nothing. keeps_begin body.ir.now.channels body.proc.now kept state got done nothing };
+
+    ghost stays = { λ body kept state got more done later longer right. keeps_stay body.ir.now.channels body.proc.now kept state got more done later longer right };
 
     ghost keeps_types = { λ body. keeps_types body.ir.now body.verified body.number body.proc.now body.there };
 }

@@ -1,7 +1,7 @@
 //! Procs of packages as bodies of networks.
 //!
-//! `IrBody` evaluates nodes in line order, once an asking: its cost is that of the nodes up to the next event. [`pure_value`] is
-//! the value of one node. `specs/` of `ir_tree` says what each node's value is.
+//! `IrBody` evaluates nodes in line order, once an activation that goes on: an event costs as much as the nodes since the last one.
+//! [`pure_value`] is the value of one node. `specs/` of `ir_tree` says what each node's value is.
 #![tactic(auto)]
 
 mod bodies;

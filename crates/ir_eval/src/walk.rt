@@ -13,7 +13,7 @@ use crate::operation::nothing;
 use crate::scope::{Scope, is_on, pure_value};
 use crate::width::sent;
 use ir_tree::{Channel, Node, Operand, Role};
-use net_core::Event;
+use net_core::{Activation, Event};
 use std::alloc::{AllocError, Global};
 use xb_bits::Bits;
 use xb_value::{Seq, Ty, Value, at, unflat};
@@ -99,19 +99,37 @@ impl Walk {
     ghost use Rattle.ir_tree.specs.declared.package.Proc.{Proc};
     ghost use Rattle.ir_tree.specs.Activations.{activation, sites_by};
     ghost use Rattle.ir_tree.specs.Rules.Typed.Typed.{AreChannels};
-    ghost use Rattle.ir_eval.specs.Inner.Walks.{StandsAt};
+    ghost use Rattle.net_core.specs.Keeps.{IsNothing};
+    ghost use Rattle.ir_eval.specs.Inner.Walks.{StandsFor, WaitsIf};
 
-    /// Before the first node.
-    pub fn new(alloc: Global) -> Walk
-        ensures values { result.values.items ≡ [] }
-        ensures site { result.site ≡ 0 }
-        ensures taken { result.taken ≡ 0 }
+    /// Where an activation stood. Nothing is kept of it then, until the walk is kept again.
+    pub fn resume(alloc: Global, kept: &mut Activation) -> Walk
+        ensures values { result.values.items ≡ kept.old.values.items }
+        ensures site { result.site ≡ kept.old.sites }
+        ensures taken { result.taken ≡ kept.old.words }
+        ensures nothing { IsNothing kept.new }
     {
-        Walk {
-            values: Vec::new(alloc),
-            site: 0,
-            taken: 0,
-        }
+        let walk = Walk {
+            values: std::mem::replace(&mut kept.values, Vec::new(alloc)),
+            site: kept.sites as usize,
+            taken: kept.words,
+        };
+        kept.clear();
+        walk
+    }
+
+    /// Keeps the walk, which stands behind this many nodes.
+    pub fn keep(self, kept: &mut Activation, steps: usize)
+        requires { self.site < 2 ^ 32 }
+        ensures values { kept.new.values.items ≡ self.values.items }
+        ensures steps { kept.new.steps ≡ steps }
+        ensures sites { kept.new.sites ≡ self.site }
+        ensures words { kept.new.words ≡ self.taken }
+    {
+        kept.values = self.values;
+        kept.steps = steps;
+        kept.sites = self.site as u32;
+        kept.words = self.taken;
     }
 
     /// Adds the value of a node that is no site.
@@ -149,10 +167,11 @@ impl Walk {
         requires channels { AreChannels channels.now }
         requires site { self.old.site < 2 ^ 32 }
         requires taken { self.old.taken + 1 < 2 ^ 64 }
-        ensures step { IfOk result (λ step. (proc : Proc) (left : List Node) → StandsAt channels.now proc state.now got.now done self.old (node.now ∷ left) →
-            MatchOption step (StandsAt channels.now proc state.now got.now done self.new left) (λ event. event ≡ next_event (activation channels.now proc) state.now got.now done)) }
+        ensures step { IfOk result (λ step. (proc : Proc) (left : List Node) → StandsFor channels.now proc state.now got.now done self.old (node.now ∷ left) →
+            MatchOption step (StandsFor channels.now proc state.now got.now done self.new left) (λ event. event ≡ next_event (activation channels.now proc) state.now got.now done)) }
         ensures site { self.new.site ≤ self.old.site + length (sites_by (role_of node.now) []) }
         ensures taken { self.new.taken ≤ self.old.taken + 1 }
+        ensures waits { IfOk result (WaitsIf self.old self.new) }
     {
         let nothing_there = nothing(alloc);
         let scope = Scope {

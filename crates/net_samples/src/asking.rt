@@ -3,7 +3,7 @@ ghost use Rattle.net_core.specs.WellFormed.{IsNet, IsInputs, IsDepths, AreBehavi
 ghost use Rattle.net_samples.specs.Behaviors.{behavior_of};
 
 use crate::sample::Sample;
-use net_core::{Config, Inputs, Net};
+use net_core::{Activation, Config, Inputs, Net};
 use std::alloc::{AllocError, Global};
 
 /// Asks the first proc of a network whether it can go, and then makes its first event. The answers are the same.
@@ -23,6 +23,7 @@ pub fn ask_and_step(
 {
     let mut config = Config::new(alloc, net, inputs, 1, depths)?;
     let can = config.can(alloc, 0, &samples[0])?;
-    let made = config.step(alloc, 0, &samples[0])?;
+    let mut kept = Activation::new(alloc);
+    let made = config.step(alloc, 0, &samples[0], &mut kept)?;
     Ok((can, made))
 }

@@ -3,7 +3,7 @@ ghost use Rattle.net_core.specs.Behavior.{IsOpen, next_event};
 ghost use Rattle.net_samples.specs.Samples.{number_of, last_number, is_on, count_from, event_at, state_after};
 
 use crate::sample::{Port, Sample, Source, Step, When};
-use net_core::{Body, Event};
+use net_core::{Activation, Body, Event};
 use std::alloc::{AllocError, Global};
 use xb_bits::Bits;
 use xb_value::{Value, at};
@@ -85,11 +85,20 @@ impl Body for Sample {
 
     ghost behavior = { behavior_of };
 
+    ghost keeps = { λ _ _ _ _ _. Unit {0} };
+
+    ghost begins = { λ _ _ _ _ _ _. tt };
+
+    ghost stays = { λ _ _ _ _ _ _ _ _ _. tt };
+
     ghost keeps_types = { sample_keeps_types };
+
+    /// An event is cheap, so nothing is kept.
 
     fn next(
         &self,
         _alloc: Global,
+        _kept: &mut Activation,
         state: &Value,
         got: &[Bits],
         done: u32,

@@ -1,7 +1,7 @@
 ghost use Rattle.std.specs.Prelude.{◌≡◌};
 
 use crate::meeting::LOOKS;
-use net_core::{Body, Event};
+use net_core::{Activation, Body, Event};
 use std::alloc::{AllocError, Global};
 use std::sync::atomic::{AtomicBool, AtomicU32, Ordering};
 use std::thread;
@@ -88,11 +88,18 @@ impl<'a, B> Held<'a, B> {
 impl<'a, B: Body> Body for Held<'a, B> {
     ghost behavior = { λ held. B.behavior held.body.now };
 
+    ghost keeps = { λ held. B.keeps held.body.now };
+
+    ghost begins = { λ held. B.begins held.body.now };
+
+    ghost stays = { λ held. B.stays held.body.now };
+
     ghost keeps_types = { λ held. B.keeps_types held.body.now };
 
     fn next(
         &self,
         alloc: Global,
+        kept: &mut Activation,
         state: &Value,
         got: &[Bits],
         done: u32,
@@ -101,6 +108,6 @@ impl<'a, B: Body> Body for Held<'a, B> {
         if done == 1 {
             self.wait();
         }
-        self.body.next(alloc, state, got, done)
+        self.body.next(alloc, kept, state, got, done)
     }
 }

@@ -3,7 +3,7 @@ ghost use Rattle.net_core.specs.Behavior.{IsOpen, next_event};
 ghost use Rattle.net_core.specs.Cuts.{Proc, Run};
 
 use chan_queue::{ChanQueue, Streams};
-use net_core::{Body, Event, Inputs, Net};
+use net_core::{Activation, Body, Event, Inputs, Net};
 use proc_task::Runtime;
 use std::alloc::{AllocError, Global};
 use xb_bits::Bits;
@@ -79,7 +79,7 @@ impl<'a, B: Body> Running for &'a Given<'a, B> {
         done: u32,
     ) -> Result<Event, AllocError> {
         match self.bodies.get(number as usize) {
-            Some(body) => body.next(alloc, state, got, done),
+            Some(body) => body.next(alloc, &mut Activation::new(alloc), state, got, done),
             None => unreachable!(),
         }
     }

@@ -1,5 +1,7 @@
 -- the event of a walk is the next one of the proc
 pub mod Nexts
+-- a walk that goes on, and is kept
+pub mod Keeping
 -- what each kind of step does to a walk
 pub mod Stepping
 -- a value is in the low bits of a word

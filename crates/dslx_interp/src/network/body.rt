@@ -7,9 +7,9 @@ ghost use Rattle.dslx_core.specs.Designs.{core_family};
 ghost use Rattle.dslx_interp.specs.Network.Bodies.{behavior_at, proc_at, receives_word};
 ghost use Rattle.dslx_interp.specs.Network.KeepsTypes.{KeepsTypes-prop};
 
-use crate::network::walk::Walk;
+use crate::network::walk::{Walk, is_at_site};
 use dslx_core::{Design, Instance};
-use net_core::{Body, Event};
+use net_core::{Activation, Body, Event};
 use std::alloc::{AllocError, Global};
 use xb_bits::Bits;
 use xb_value::Value;
@@ -50,26 +50,45 @@ impl<'a> DslxBody<'a> {
 impl Body for DslxBody<'_> {
     ghost use Rattle.dslx_interp.specs.Network.DslxBodies.{behavior_of};
 
+    ghost use Rattle.dslx_interp.specs.Network.Inner.Keeps.{KeepsWalk};
+    ghost use Rattle.dslx_interp.specs.Network.Inner.Kept.{keeps_begin, keeps_stay};
+
     ghost behavior = { behavior_of };
 
-    /// The steps up to the event are gone through, once each, from a copy of the state.
+    ghost keeps = { λ body kept. KeepsWalk body.design.now body.number body.instance.now kept };
+
+    /// The steps up to the event are gone through, once an activation, from a copy of the state. The word of a send is worked out
+    /// once, however often it is asked for.
     fn next(
         &self,
         alloc: Global,
+        kept: &mut Activation,
         state: &Value,
         got: &[Bits],
         done: u32,
     ) -> Result<Event, AllocError> {
         let functions = self.design.functions.as_slice();
-        let mut walk = Walk::new(alloc, state)?;
-        'steps: for step in self.instance.steps.as_slice() {
-            match walk.step(alloc, functions, got, done, step)? {
+        let steps = self.instance.steps.as_slice();
+        let first = kept.steps;
+        let mut sent = kept.sent;
+        let mut walk = Walk::resume(alloc, kept, state)?;
+        'steps: for number in first..steps.len() {
+            match walk.step(alloc, functions, got, done, &mut sent, &steps[number])? {
                 None => {}
-                Some(event) => return Ok(event),
+                Some(event) => {
+                    if is_at_site(&event) {
+                        walk.keep(kept, number, sent);
+                    }
+                    return Ok(event);
+                }
             }
         }
         walk.end(alloc, functions, &self.instance.next)
     }
+
+    ghost begins = { λ body kept state got done nothing. keeps_begin body.design.now body.number body.instance.now kept state got done nothing };
+
+    ghost stays = { λ body kept state got more done later longer right. keeps_stay body.design.now body.number body.instance.now kept state got more done later longer right };
 
     ghost keeps_types = { λ body. body.keeps };
 }

@@ -1,6 +1,9 @@
 -- What each kind of step does to a walk.
-use Rattle.std.proofs.Common.{◌≡◌, ℕ, zero, suc, ◌+◌, ◌-◌, ◌<◌, ◌≤◌, List, [], ◌∷◌, drop, Bool, true, false, Option, Some, None, refl, sym, ap, subst, ◌∙◌, arith}
-use Rattle.std.specs.Prelude.{slice_get, unwrap_or}
+use Rattle.std.proofs.Common.{◌≡◌, ℕ, zero, suc, ◌+◌, ◌-◌, ◌<◌, ◌≤◌, List, [], ◌∷◌, ◌++◌, drop, Bool, true, false, Option, Some, None, refl, sym, ap, subst, ◌∙◌, arith}
+use Rattle.std.specs.Prelude.{slice_get, unwrap_or, option_map}
+use Rattle.std.proofs.lemmas.List.{append-nil}
+use Rattle.std.proofs.lemmas.Option.{slice_get_within}
+use Rattle.base.proofs.Lemmas.Lists.Indices.{slice_get-append_left}
 use Rattle.xb_bits.specs.Word.{Word, IsWord}
 use Rattle.xb_value.specs.declared.ty.Ty.{Ty}
 use Rattle.xb_value.specs.declared.value.Value.{Value}
@@ -15,7 +18,7 @@ use Rattle.dslx_core.specs.Designs.{Behind, CoreActivity, apart_then, condition_
 use Rattle.dslx_core.specs.declared.expr.CoreExpr.{CoreExpr}
 use Rattle.dslx_core.specs.declared.expr.Shape.{Shape}
 use Rattle.dslx_interp.specs.declared.network.walk.Walk.{Walk}
-use Rattle.dslx_interp.specs.Network.Inner.Walking.{SendsAWord, Goes, BindsOrEnds, StandsStill, bound_then, event_behind, event_here, first_event, give_then, receive_off, send_off}
+use Rattle.dslx_interp.specs.Network.Inner.Walking.{SendsAWord, Goes, GoesOn, BindsOrEnds, HasWordIf, IsWordFor, StandsStill, WaitsIf, bound_then, event_behind, event_here, first_event, give_then, receive_off, send_off}
 
 ended_is : (k i : ℕ) → event_behind no_activity k i ≡ End token
 unfolding first_event
@@ -47,6 +50,39 @@ goes_from f g got done old mid new (Some event) same h = λ rest. same rest ∙ 
 -- so it is from a walk that stands as this one
 pub goes_on_from : (f : Behind → Behind) (got : List Word) (done : ℕ) (old mid new : Walk) (ended : Option Event) → StandsStill old mid → Goes f got done mid new ended → Goes f got done old new ended
 goes_on_from f got done old mid new ended stays h = goes_from f f got done old mid new ended (λ rest. stands_as (f rest) got done old mid stays) h
+
+-- what a step does whatever comes later
+pub later_goes : (f : Behind → Behind) (got : List Word) (done : ℕ) (old new : Walk) (ended : Option Event)
+    → ((more : List Word) (later : ℕ) → done ≤ later → Goes f (got ++ more) later old new ended) → GoesOn f got done old new ended
+later_goes f got done old new None h = h
+later_goes f got done old new (Some event) h = subst (λ all. Goes f all done old new (Some event)) (append-nil got) (h [] done (omega arith))
+
+-- what another step does from where a walk stands, this one does
+pub goes_under : (f g : Behind → Behind) (got : List Word) (done : ℕ) (old mid new : Walk) (ended : Option Event)
+    → ((all : List Word) (later : ℕ) → Goes g all later mid new ended → Goes f all later old new ended) → GoesOn g got done mid new ended → GoesOn f got done old new ended
+goes_under f g got done old mid new None m h = λ more later l. m (got ++ more) later (h more later l)
+goes_under f g got done old mid new (Some event) m h = m got done h
+
+still_from : (old mid new : Walk) → StandsStill old mid → StandsStill mid new → StandsStill old new
+still_from old mid new a b = record { bound = b.bound ∙ a.bound; received = b.received ∙ a.received; site = b.site ∙ a.site }
+
+pub waits_from : (old mid new : Walk) (ended : Option Event) → StandsStill old mid → WaitsIf mid new ended → WaitsIf old new ended
+waits_from old mid new None a h = tt
+waits_from old mid new (Some (Recv i)) a h = still_from old mid new a h
+waits_from old mid new (Some (Send i w)) a h = still_from old mid new a h
+waits_from old mid new (Some (End s)) a h = tt
+
+pub ended_waits : (old new : Walk) (event : Event) → event ≡ End token → WaitsIf old new (Some event)
+ended_waits old new event e = subst (λ x. WaitsIf old new (Some x)) (sym e) tt
+
+-- a walk whose parts are taken apart comes to no site
+pub bound_waits : (shape : Shape) (value : Value) (old mid new : Walk) (ended : Option Event) → BindsOrEnds shape value mid new ended → WaitsIf old new ended
+bound_waits shape value old mid new None h = tt
+bound_waits shape value old mid new (Some event) h = ended_waits old new event h.1
+
+-- a word that is there stays there
+pub word_stays : (got more : List Word) (k : ℕ) (w : Word) → slice_get got k ≡ Some w → slice_get (got ++ more) k ≡ Some w
+word_stays got more k w e = slice_get-append_left got more k (slice_get_within got k w e) ∙ e
 
 pub bind_goes : (calls : Functions) (e : CoreExpr) (shape : Shape) (got : List Word) (done : ℕ) (old mid new : Walk) (value : Value) (ended : Option Event)
     → Some value ≡ core_value e calls old.bound.items → StandsStill old mid → BindsOrEnds shape value mid new ended → Goes (bound_then calls e shape) got done old new ended
@@ -236,8 +272,48 @@ module _ (calls : Functions) (e on : CoreExpr) (shape : Shape) (got : List Word)
   pub send_is_neither : (new : Walk) → None ≡ condition_at calls on old.bound.items → Goes (send_if calls e (Some on) shape) got done old new (Some (End token))
   send_is_neither new is rest = send_by None is rest ∙ ended_is (done - old.site) old.site
 
+-- so it is whatever comes later, from where a walk stands that has looked at the condition
+module _ (calls : Functions) (t : Ty) (on otherwise : CoreExpr) (shape : Shape) (got : List Word) (done : ℕ) (old mid new : Walk) (ended : Option Event) (stays : StandsStill old mid) where
+  pub receive_later_on : Some true ≡ condition_at calls on old.bound.items → GoesOn (receive_on t shape) got done mid new ended → GoesOn (receive_if calls t (Some (on, otherwise)) shape) got done old new ended
+  receive_later_on is h =
+      goes_under (receive_if calls t (Some (on, otherwise)) shape) (receive_on t shape) got done old mid new ended
+      (λ all later k. receive_is_on calls t on otherwise shape all later old new ended is (goes_on_from (receive_on t shape) all later old mid new ended stays k)) h
+
+  pub receive_later_off : Some false ≡ condition_at calls on old.bound.items → GoesOn (receive_off calls otherwise shape) got done mid new ended → GoesOn (receive_if calls t (Some (on, otherwise)) shape) got done old new ended
+  receive_later_off is h =
+      goes_under (receive_if calls t (Some (on, otherwise)) shape) (receive_off calls otherwise shape) got done old mid new ended
+      (λ all later k. receive_is_off calls t on otherwise shape all later old new ended is (goes_on_from (receive_off calls otherwise shape) all later old mid new ended stays k)) h
+
+module _ (calls : Functions) (e on : CoreExpr) (shape : Shape) (got : List Word) (done : ℕ) (old mid new : Walk) (ended : Option Event) (stays : StandsStill old mid) where
+  pub send_later_on : Some true ≡ condition_at calls on old.bound.items → GoesOn (give_then calls e shape) got done mid new ended → GoesOn (send_if calls e (Some on) shape) got done old new ended
+  send_later_on is h =
+      goes_under (send_if calls e (Some on) shape) (give_then calls e shape) got done old mid new ended
+      (λ all later k. send_is_on calls e on shape all later old new ended is (goes_on_from (give_then calls e shape) all later old mid new ended stays k)) h
+
+  pub send_later_off : Some false ≡ condition_at calls on old.bound.items → GoesOn (send_off shape) got done mid new ended → GoesOn (send_if calls e (Some on) shape) got done old new ended
+  send_later_off is h =
+      goes_under (send_if calls e (Some on) shape) (send_off shape) got done old mid new ended
+      (λ all later k. send_is_off calls e on shape all later old new ended is (goes_on_from (send_off shape) all later old mid new ended stays k)) h
+
 -- ---- the end of the steps
 
 pub at_end : (calls : Functions) (next : CoreExpr) (bound : Bindings) (words : List Word) (k i : ℕ) → event_behind (do_steps calls [] next bound words) k i ≡ End (unwrap_or (core_value next calls bound) token)
 unfolding first_event
 at_end calls next bound words k i = refl
+
+-- ---- words that are known
+
+-- the value of a word that is known
+pub known_value : (value : Option Value) (w : Word) → IsWordFor value (Some w) → (v : Value) × (value ≡ Some v) × (flat_of v ≡ w)
+known_value None w h = absurd (cc)
+known_value (Some v) w h = let same : flat_of v ≡ w = cc in (v, refl, same)
+
+-- a walk goes past a send that has a word
+pub past_send : (calls : Functions) (e : CoreExpr) (shape : Shape) (got : List Word) (done : ℕ) (old stood mid new : Walk) (ended : Option Event) → old.site < done
+    → HasWordIf (core_value e calls old.bound.items) old stood true → mid.bound ≡ stood.bound → mid.received ≡ stood.received → mid.site ≡ stood.site + 1
+    → BindsOrEnds shape token mid new ended → GoesOn (give_then calls e shape) got done old new ended
+past_send calls e shape got done old stood mid new ended before there bound r s h =
+    later_goes (give_then calls e shape) got done old new ended (λ more later l.
+    goes_on_from (give_then calls e shape) (got ++ more) later old stood new ended there.1
+    (send_goes calls e shape (got ++ more) later stood mid new there.0.0 ended (omega (arith, l, before, there.1.site))
+    (sym there.0.1 ∙ ap (core_value e calls) (sym there.1.bound)) bound r s h))

@@ -7,8 +7,8 @@ pub loop-i-init : goal.loop-i-init
 unfolding next_event
 loop-i-init c = refl
 
-pub returns-then-is_on : goal.returns-then-is_on
-returns-then-is_on c =
+pub returns-then-is_on-clause-event : goal.returns-then-is_on-clause-event
+returns-then-is_on-clause-event c =
     on_step c.args.self.now c.as_slice-ports.result.now c.as_slice-ports.ensures c.args.state.now c.args.got.now c.loop-i.i _ c.number_of-number.result c.last_number-last.result
     c.number_of-number.ensures c.last_number-last.ensures c.loop-i-test.true c.is_on.result c.is_on.ensures c.if-is_on.true c.event.result c.event.ensures
     ∙ c.loop-i.invariant
@@ -19,8 +19,8 @@ loop-i-preserved c =
     c.number_of-number.ensures c.loop-i-test.true c.is_on.result c.is_on.ensures c.if-is_on.false
     ∙ c.loop-i.invariant
 
-pub returns : goal.returns
-returns c =
+pub returns-clause-event : goal.returns-clause-event
+returns-clause-event c =
     end_step c.args.self.now c.as_slice-ports.result.now c.as_slice-ports.ensures c.args.state.now c.args.got.now c.loop-i.i c.number_of-number.result c.last_number-last.result
     c.number_of-number.ensures c.last_number-last.ensures c.loop-i-test.false c.state_after.result c.state_after.ensures
     ∙ c.loop-i.invariant

@@ -1,21 +1,28 @@
-use Rattle.std.proofs.Common.{◌≡◌, ◌∙◌, None, Some, sym, subst}
+use Rattle.std.proofs.Common.{◌≡◌, ◌∙◌, ◌++◌, None, Some, sym, subst}
 use Rattle.std.proofs.lemmas.Result.{IfOk-weaker}
 use Rattle.dslx_core.specs.CoreValues.{core_value}
 use Rattle.dslx_core.specs.Designs.{functions_from, no_function}
-use Rattle.dslx_interp.specs.Network.Inner.Walking.{StandsStill, StandsStillIf}
-use Rattle.dslx_interp.proofs.OnNetwork.OnBody.Stepping.{bind_goes, bind_without}
+use Rattle.dslx_interp.specs.Network.Inner.Walking.{StandsStill, StandsStillIf, bound_then}
+use Rattle.dslx_interp.proofs.OnNetwork.OnBody.Stepping.{bind_goes, bind_without, bound_waits, ended_waits, later_goes}
 use Rattle.dslx_interp.proofs.network.walk.Walk.bind.Goals as goal
 
-pub returns-in_default : goal.returns-in_default
-returns-in_default c =
+pub returns-in_default-clause-goes : goal.returns-in_default-clause-goes
+returns-in_default-clause-goes c =
     let calls = functions_from 0 c.args.functions.now no_function in
     let is : None ≡ core_value c.args.expr.now calls c.args.self.now.bound.items = sym c.in_default.is ∙ c.in_ok-value.ensures.value in
     λ rest. bind_without calls c.args.expr.now c.args.shape.now c.args._got.now c.args._done c.args.self.now is rest ∙ sym c.ended.ensures
 
-pub returns : goal.returns
-returns c =
+pub returns-clause-goes : goal.returns-clause-goes
+returns-clause-goes c =
     let calls = functions_from 0 c.args.functions.now no_function in
     let is : Some c.in-Some.value ≡ core_value c.args.expr.now calls c.args.self.now.bound.items = sym c.in-Some.is ∙ c.in_ok-value.ensures.value in
     let stays : StandsStill c.args.self.now c.value.new.self = subst (λ v. StandsStillIf v c.args.self.now c.value.new.self) c.in-Some.is c.in_ok-value.ensures.stays in
     IfOk-weaker c.take.result _ _
-    (λ ended h. bind_goes calls c.args.expr.now c.args.shape.now c.args._got.now c.args._done c.args.self.now c.value.new.self c.take.new.self c.in-Some.value ended is stays h) c.take.ensures
+    (λ ended h. later_goes (bound_then calls c.args.expr.now c.args.shape.now) c.args._got.now c.args._done c.args.self.now c.take.new.self ended (λ more later l.
+    bind_goes calls c.args.expr.now c.args.shape.now (c.args._got.now ++ more) later c.args.self.now c.value.new.self c.take.new.self c.in-Some.value ended is stays h)) c.take.ensures.binds
+
+pub returns-in_default-clause-waits : goal.returns-in_default-clause-waits
+returns-in_default-clause-waits c = ended_waits _ _ _ c.ended.ensures
+
+pub returns-clause-waits : goal.returns-clause-waits
+returns-clause-waits c = IfOk-weaker c.take.result _ _ (λ ended h. bound_waits _ _ _ _ _ ended h) c.take.ensures.binds

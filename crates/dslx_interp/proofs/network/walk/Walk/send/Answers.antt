@@ -6,8 +6,8 @@ use Rattle.dslx_interp.specs.Network.Inner.Walking.{event_here}
 use Rattle.dslx_interp.proofs.OnNetwork.OnBody.Stepping.{send_is_neither}
 use Rattle.dslx_interp.proofs.network.walk.Walk.send.Goals as goal
 
-pub returns-in-None : goal.returns-in-None
-returns-in-None c =
+pub returns-in-None-clause-goes : goal.returns-in-None-clause-goes
+returns-in-None-clause-goes c =
     let calls : Functions = functions_from 0 c.args.functions.now no_function in
     let s = c.args.send.now in
     let old = c.args.self.now in
