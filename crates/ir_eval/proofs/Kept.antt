@@ -16,7 +16,7 @@ use Rattle.ir_tree.specs.NodeValues.{role_of}
 use Rattle.ir_tree.specs.Activations.{activation, sites_by, sites_of}
 use Rattle.ir_eval.specs.Inner.Stands.{StandsBehind}
 use Rattle.ir_eval.specs.Inner.Walks.{StandsFor}
-use Rattle.ir_eval.specs.Inner.Keeps.{KeepsWalk}
+use Rattle.ir_eval.specs.Inner.Keeps.{KeepsNodes}
 use Rattle.ir_eval.specs.Inner.Kept.{moved}
 use Rattle.ir_eval.specs.declared.walk.Walk.{Walk}
 
@@ -24,7 +24,7 @@ use Rattle.ir_eval.specs.declared.walk.Walk.{Walk}
 pub keeps_walk : (channels : List Channel) (proc : Proc) (kept : Activation) (s : Value) (got : List Word) (done : ℕ) (walk : Walk) (steps : ℕ)
     → kept.values.items ≡ walk.values.items → kept.steps ≡ steps → kept.sites ≡ walk.site → kept.words ≡ walk.taken
     → walk.site + length (sites_of (drop steps proc.nodes)) ≤ length (sites_of proc.nodes) → walk.taken ≤ steps → walk.taken ≤ length got
-    → StandsFor channels proc s got done walk (drop steps proc.nodes) → KeepsWalk channels proc kept s got done
+    → StandsFor channels proc s got done walk (drop steps proc.nodes) → KeepsNodes channels proc kept s got done
 keeps_walk channels proc kept s got done walk steps values same sites words few less within st = record {
   few = subst (λ k. kept.sites + length (sites_of (drop k proc.nodes)) ≤ length (sites_of proc.nodes)) (sym same) (omega (arith, few, sites));
   less = omega (arith, less, same, words);
@@ -36,7 +36,7 @@ keeps_walk channels proc kept s got done walk steps values same sites words few 
 
 -- and the other way round
 pub walk_kept : (channels : List Channel) (proc : Proc) (kept : Activation) (s : Value) (got : List Word) (done : ℕ) (walk : Walk)
-    → walk.values.items ≡ kept.values.items → walk.site ≡ kept.sites → walk.taken ≡ kept.words → KeepsWalk channels proc kept s got done
+    → walk.values.items ≡ kept.values.items → walk.site ≡ kept.sites → walk.taken ≡ kept.words → KeepsNodes channels proc kept s got done
     → StandsFor channels proc s got done walk (drop kept.steps proc.nodes)
 walk_kept channels proc kept s got done walk values sites words k all later h e =
     moved channels proc s all later _ _ _ _ _ _ _ values sites words (k.stands all later h (subst (λ n. take n all ≡ take n got) words e))

@@ -43,12 +43,12 @@ impl<'a> IrBody<'a> {
 
 impl Body for IrBody<'_> {
     ghost use Rattle.ir_eval.specs.IrBodies.{behavior_of};
-    ghost use Rattle.ir_eval.specs.Inner.Keeps.{KeepsWalk};
+    ghost use Rattle.ir_eval.specs.Inner.Keeps.{KeepsNodes};
     ghost use Rattle.ir_eval.specs.Inner.Kept.{keeps_begin, keeps_stay};
 
     ghost behavior = { behavior_of };
 
-    ghost keeps = { λ body kept. KeepsWalk body.ir.now.channels body.proc.now kept };
+    ghost keeps = { λ body kept. KeepsNodes body.ir.now.channels body.proc.now kept };
 
     /// The nodes up to the event are evaluated, once an activation.
     fn next(

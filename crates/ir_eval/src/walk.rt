@@ -100,7 +100,7 @@ impl Walk {
     ghost use Rattle.ir_tree.specs.Activations.{activation, sites_by};
     ghost use Rattle.ir_tree.specs.Rules.Typed.Typed.{AreChannels};
     ghost use Rattle.net_core.specs.Keeps.{IsNothing};
-    ghost use Rattle.ir_eval.specs.Inner.Walks.{StandsFor, WaitsIf};
+    ghost use Rattle.ir_eval.specs.Inner.Walks.{StandsFor, StaysIf};
 
     /// Where an activation stood. Nothing is kept of it then, until the walk is kept again.
     pub fn resume(alloc: Global, kept: &mut Activation) -> Walk
@@ -171,7 +171,7 @@ impl Walk {
             MatchOption step (StandsFor channels.now proc state.now got.now done self.new left) (λ event. event ≡ next_event (activation channels.now proc) state.now got.now done)) }
         ensures site { self.new.site ≤ self.old.site + length (sites_by (role_of node.now) []) }
         ensures taken { self.new.taken ≤ self.old.taken + 1 }
-        ensures waits { IfOk result (WaitsIf self.old self.new) }
+        ensures waits { IfOk result (StaysIf self.old self.new) }
     {
         let nothing_there = nothing(alloc);
         let scope = Scope {

@@ -17,7 +17,7 @@ use Rattle.net_core.specs.Cuts.{Proc, Run, Cut}
 use Rattle.net_core.specs.Machine.{position_in, next_of}
 use Rattle.net_core.specs.Shows.{Shows, progress_of, IsBehaviorOf, IsUnchanged}
 use Rattle.net_core.specs.Keeps.{IsNothing, KeepsFor}
-use Rattle.net_core.specs.Inner.Making.{TriesReceive, TriesSend, TriesEvent, EndsWith}
+use Rattle.net_core.specs.Inner.Making.{TriesReceive, TriesSend, TriesEvent, LeavesKept}
 use Rattle.net_core.proofs.Openings.{EventAt, receives_at, sends_at, ends_with, next_at}
 use Rattle.net_core.proofs.Shown.{site_data, progress_is, site_fits, stands_at}
 
@@ -46,7 +46,7 @@ module _ (keeps : Activation → Value → List Word → ℕ → Type 0)
   begins_for kept config p h progress e = begins kept progress.state progress.got progress.done h
 
   -- an event that wasn't made
-  kept_err : (config new : Config) (p : ℕ) (event : Event) (kept last : Activation) → IsUnchanged config new → EndsWith event kept last
+  kept_err : (config new : Config) (p : ℕ) (event : Event) (kept last : Activation) → IsUnchanged config new → LeavesKept event kept last
       → KeepsFor (keeps kept) config p → KeepsFor (keeps last) new p
   kept_err config new p (Recv i) kept last same e h = subst (λ x. KeepsFor (keeps x) new p) (sym e) (kept_unchanged (keeps kept) config new p same h)
   kept_err config new p (Send i w) kept last same e h = subst (λ x. KeepsFor (keeps x) new p) (sym e) (kept_unchanged (keeps kept) config new p same h)
@@ -75,7 +75,7 @@ module _ (keeps : Activation → Value → List Word → ℕ → Type 0)
     send_keeps new i site chan w later false t = unmoved new t.1
 
     event_keeps : (new : Config) (last : Activation) (e : Event) → EventAt proc.behavior (position_in run cut p proc).state (position_in run cut p proc).got (position_in run cut p proc).done e
-        → EndsWith e kept last → (made : Bool) → TriesEvent config new p e made → KeepsFor (keeps last) new p
+        → LeavesKept e kept last → (made : Bool) → TriesEvent config new p e made → KeepsFor (keeps last) new p
     event_keeps new last _ (receives_at i site later place stands turn) same made t =
         let fits = site_fits run cut config sh p proc proc_is i site place in
         let at = stands_at run cut config sh p proc proc_is i site place fits.chan fits.chan_is in
@@ -88,13 +88,13 @@ module _ (keeps : Activation → Value → List Word → ℕ → Type 0)
 
   -- a proc that has worked out its next event, and tried it
   pub asked_keeps : {E : Type 0} (run : Run) (cut : Cut) (config new : Config) → Shows run cut config → (p : ℕ) (b : Behavior) (is : IsBehaviorOf run p b) (progress : Progress) (event : Event) (kept last : Activation)
-      → progress ≡ progress_of run cut p is.0 → next_of is.0.behavior (position_in run cut p is.0) ≡ event → keeps kept progress.state progress.got progress.done → EndsWith event kept last
+      → progress ≡ progress_of run cut p is.0 → next_of is.0.behavior (position_in run cut p is.0) ≡ event → keeps kept progress.state progress.got progress.done → LeavesKept event kept last
       → (tried : Result Bool E) → IfOk tried (λ made. TriesEvent config new p event made) → OnErr tried (IsUnchanged config new) → KeepsFor (keeps last) new p
   asked_keeps run cut config new sh p b is progress event kept last here next right ended (Ok made) tried err =
       let at = position_in run cut p is.0 in
       let there = next_at is.0.behavior at.state at.got at.done (sh.stands p is.0 is.1) in
       event_keeps run cut config sh p is.0 is.1 kept (subst (λ (x : Progress). keeps kept x.state x.got x.done) here right) new last _ there
-      (subst (λ e. EndsWith e kept last) (sym next) ended) made (subst (λ e. TriesEvent config new p e made) (sym next) tried)
+      (subst (λ e. LeavesKept e kept last) (sym next) ended) made (subst (λ e. TriesEvent config new p e made) (sym next) tried)
   asked_keeps run cut config new sh p b is progress event kept last here next right ended (Err x) tried err =
       kept_err config new p event kept last err ended
       (kept_at (keeps kept) config p (progress_of run cut p is.0) (progress_is run cut config sh p is.0 is.1) (subst (λ (x : Progress). keeps kept x.state x.got x.done) here right))

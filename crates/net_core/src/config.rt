@@ -90,7 +90,7 @@ impl Config {
     ghost use Rattle.net_core.specs.declared.net.Site.{Site};
     ghost use Rattle.net_core.specs.declared.progress.Progress.{Progress};
     ghost use Rattle.net_core.specs.Inner.Making.{has_word, has_room, SiteData, IsSiteData};
-    ghost use Rattle.net_core.specs.Inner.Making.{IsReceiveMade, IsSendMade, IsEndMade, TriesReceive, TriesSend, IsStandingFor, CanMake, TriesEvent, EndsWith};
+    ghost use Rattle.net_core.specs.Inner.Making.{IsReceiveMade, IsSendMade, IsEndMade, TriesReceive, TriesSend, IsStandingFor, CanMake, TriesEvent, LeavesKept};
     ghost use Rattle.base.specs.Lists.Indexed.{indexed};
     ghost use Rattle.net_core.specs.Outcomes.{outcome_of, stall_in, behaviors_of};
     ghost use Rattle.net_core.specs.Behavior.{Behavior};
@@ -232,7 +232,7 @@ impl Config {
         requires { IsStandingFor self.old p event }
         ensures ok { IfOk result (λ made. TriesEvent self.old self.new p event made) }
         ensures err { OnErr result (IsUnchanged self.old self.new) }
-        ensures kept { EndsWith event kept.old kept.new }
+        ensures kept { LeavesKept event kept.old kept.new }
     {
         match event {
             Event::Recv(site) => self.try_receive(p, site),

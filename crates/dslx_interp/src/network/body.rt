@@ -49,7 +49,6 @@ impl<'a> DslxBody<'a> {
 
 impl Body for DslxBody<'_> {
     ghost use Rattle.dslx_interp.specs.Network.DslxBodies.{behavior_of};
-
     ghost use Rattle.dslx_interp.specs.Network.Inner.Keeps.{KeepsWalk};
     ghost use Rattle.dslx_interp.specs.Network.Inner.Kept.{keeps_begin, keeps_stay};
 

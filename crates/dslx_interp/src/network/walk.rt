@@ -7,7 +7,7 @@ ghost use Rattle.dslx_core.specs.CoreValues.{core_value};
 ghost use Rattle.dslx_core.specs.Designs.{Behind, condition_at, do_step, functions_from, no_function, receive_if, receive_on, send_if, token, with_token};
 ghost use Rattle.dslx_core.specs.Lowering.Steps.{fits_word};
 ghost use Rattle.dslx_interp.specs.Network.Bodies.{receives_word};
-ghost use Rattle.dslx_interp.specs.Network.Inner.Walking.{SendsAWord, Goes, GoesOn, BindsOrEnds, IsSentAfter, IsSentAt, IsWordAfter, IsWordFor, HasWordIf, KeepsIf, StandsStillIf, WaitsIf, bound_from, bound_then, event_here, give_then, is_at_site, receive_off, send_off};
+ghost use Rattle.dslx_interp.specs.Network.Inner.Walking.{SendsAWord, Goes, GoesLater, BindsOrEnds, IsSentAfter, IsSentAt, IsWordAfter, IsWordFor, HasWordIf, KeepsIf, StandsStillIf, WaitsIf, bound_from, bound_then, event_here, give_then, is_at_site, receive_off, send_off};
 
 use crate::eval::value_of;
 use crate::network::word::{word_at, word_value};
@@ -80,7 +80,7 @@ impl Walk {
         requires words { IsTrue (receives_word step.now) }
         requires sent { IsSentAt (functions_from 0 functions.now no_function) step.now self.old.bound.items sent.old }
         requires fits { (rest : Behind) × SendsAWord (event_here (do_step (functions_from 0 functions.now no_function) step.now rest) got.now done self.old) }
-        ensures goes { IfOk result (λ ended. GoesOn (do_step (functions_from 0 functions.now no_function) step.now) got.now done self.old self.new ended) }
+        ensures goes { IfOk result (λ ended. GoesLater (do_step (functions_from 0 functions.now no_function) step.now) got.now done self.old self.new ended) }
         ensures waits { IfOk result (WaitsIf self.old self.new) }
         ensures sent { IfOk result (λ ended. IsSentAfter (functions_from 0 functions.now no_function) step.now self.old.bound.items sent.new ended) }
     {
@@ -167,7 +167,7 @@ impl Walk {
         expr: &CoreExpr,
         shape: &Shape,
     ) -> Result<Option<Event>, AllocError>
-        ensures goes { IfOk result (λ ended. GoesOn (bound_then (functions_from 0 functions.now no_function) expr.now shape.now) _got.now _done self.old self.new ended) }
+        ensures goes { IfOk result (λ ended. GoesLater (bound_then (functions_from 0 functions.now no_function) expr.now shape.now) _got.now _done self.old self.new ended) }
         ensures waits { IfOk result (WaitsIf self.old self.new) }
     {
         let Some(value) = self.value(alloc, functions, expr)? else {
@@ -186,7 +186,7 @@ impl Walk {
         receive: &Receive,
     ) -> Result<Option<Event>, AllocError>
         requires { IsTrue (fits_word receive.now.word) }
-        ensures goes { IfOk result (λ ended. GoesOn (receive_if (functions_from 0 functions.now no_function) receive.now.word receive.now.condition receive.now.shape) got.now done self.old self.new ended) }
+        ensures goes { IfOk result (λ ended. GoesLater (receive_if (functions_from 0 functions.now no_function) receive.now.word receive.now.condition receive.now.shape) got.now done self.old self.new ended) }
         ensures waits { IfOk result (WaitsIf self.old self.new) }
     {
         let Some((on, otherwise)) = &receive.condition else {
@@ -215,7 +215,7 @@ impl Walk {
         receive: &Receive,
     ) -> Result<Option<Event>, AllocError>
         requires { IsTrue (fits_word receive.now.word) }
-        ensures goes { IfOk result (λ ended. GoesOn (receive_on receive.now.word receive.now.shape) got.now done self.old self.new ended) }
+        ensures goes { IfOk result (λ ended. GoesLater (receive_on receive.now.word receive.now.shape) got.now done self.old self.new ended) }
         ensures waits { IfOk result (WaitsIf self.old self.new) }
     {
         if self.site >= done {
@@ -240,7 +240,7 @@ impl Walk {
         otherwise: &CoreExpr,
         shape: &Shape,
     ) -> Result<Option<Event>, AllocError>
-        ensures goes { IfOk result (λ ended. GoesOn (receive_off (functions_from 0 functions.now no_function) otherwise.now shape.now) _got.now _done self.old self.new ended) }
+        ensures goes { IfOk result (λ ended. GoesLater (receive_off (functions_from 0 functions.now no_function) otherwise.now shape.now) _got.now _done self.old self.new ended) }
         ensures waits { IfOk result (WaitsIf self.old self.new) }
     {
         let Some(value) = self.value(alloc, functions, otherwise)? else {
@@ -263,7 +263,7 @@ impl Walk {
     ) -> Result<Option<Event>, AllocError>
         requires fits { (rest : Behind) × SendsAWord (event_here (send_if (functions_from 0 functions.now no_function) send.now.word send.now.condition send.now.shape rest) got.now done self.old) }
         requires sent { IsWordFor (core_value send.now.word (functions_from 0 functions.now no_function) self.old.bound.items) sent.old }
-        ensures goes { IfOk result (λ ended. GoesOn (send_if (functions_from 0 functions.now no_function) send.now.word send.now.condition send.now.shape) got.now done self.old self.new ended) }
+        ensures goes { IfOk result (λ ended. GoesLater (send_if (functions_from 0 functions.now no_function) send.now.word send.now.condition send.now.shape) got.now done self.old self.new ended) }
         ensures waits { IfOk result (WaitsIf self.old self.new) }
         ensures sent { IfOk result (λ ended. IsWordAfter (core_value send.now.word (functions_from 0 functions.now no_function) self.old.bound.items) sent.new ended) }
     {
@@ -292,7 +292,7 @@ impl Walk {
     ) -> Result<Option<Event>, AllocError>
         requires fits { (rest : Behind) × SendsAWord (event_here (give_then (functions_from 0 functions.now no_function) send.now.word send.now.shape rest) got.now done self.old) }
         requires sent { IsWordFor (core_value send.now.word (functions_from 0 functions.now no_function) self.old.bound.items) sent.old }
-        ensures goes { IfOk result (λ ended. GoesOn (give_then (functions_from 0 functions.now no_function) send.now.word send.now.shape) got.now done self.old self.new ended) }
+        ensures goes { IfOk result (λ ended. GoesLater (give_then (functions_from 0 functions.now no_function) send.now.word send.now.shape) got.now done self.old self.new ended) }
         ensures waits { IfOk result (WaitsIf self.old self.new) }
         ensures sent { IfOk result (λ ended. IsWordAfter (core_value send.now.word (functions_from 0 functions.now no_function) self.old.bound.items) sent.new ended) }
     {
@@ -300,7 +300,8 @@ impl Walk {
             let event = self.give(alloc, functions, got, done, sent, send)?;
             return Ok(Some(event));
         }
-        if !self.has_word(alloc, functions, &send.word, *sent)? {
+        let there = self.has_word(alloc, functions, &send.word, *sent)?;
+        if !there {
             return Ok(Some(ended(alloc)));
         }
         *sent = None;
@@ -364,7 +365,7 @@ impl Walk {
         _done: u32,
         shape: &Shape,
     ) -> Result<Option<Event>, AllocError>
-        ensures goes { IfOk result (λ ended. GoesOn (send_off shape.now) _got.now _done self.old self.new ended) }
+        ensures goes { IfOk result (λ ended. GoesLater (send_off shape.now) _got.now _done self.old self.new ended) }
         ensures waits { IfOk result (WaitsIf self.old self.new) }
     {
         self.pass()?;
@@ -386,11 +387,7 @@ impl Walk {
 }
 
 /// The values that are bound, or the state where there are none.
-fn or_state(
-    alloc: Global,
-    values: Vec<Value>,
-    state: &Value,
-) -> Result<Vec<Value>, AllocError>
+fn or_state(alloc: Global, values: Vec<Value>, state: &Value) -> Result<Vec<Value>, AllocError>
     ensures { IfOk result (λ bound. bound.items ≡ bound_from values.items state.now) }
 {
     let mut bound = values;

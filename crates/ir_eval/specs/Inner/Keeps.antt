@@ -9,7 +9,7 @@ use Rattle.ir_tree.specs.Activations.{sites_of}
 use Rattle.ir_eval.specs.Inner.Walks.{StandsLater}
 
 -- the values of the first nodes, among which stand so many sites, which took so many of the words that are there
-pub record KeepsWalk (channels : List Channel) (proc : Proc) (kept : Activation) (s : Value) (got : List Word) (done : ℕ) : Type 0 where
+pub record KeepsNodes (channels : List Channel) (proc : Proc) (kept : Activation) (s : Value) (got : List Word) (done : ℕ) : Type 0 where
   pub few : kept.sites + length (sites_of (drop kept.steps proc.nodes)) ≤ length (sites_of proc.nodes)
   pub less : kept.words ≤ kept.steps
   pub within : kept.words ≤ length got

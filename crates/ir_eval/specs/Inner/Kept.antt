@@ -1,5 +1,5 @@
 -- What is kept of an activation is right from its beginning on, and stays so.
-use Rattle.std.proofs.Common.{◌≡◌, ◌≤◌, ◌+◌, ℕ, max, List, [], ◌++◌, length, drop, take, refl, sym, ap, ◌∙◌, subst, arith}
+use Rattle.std.proofs.Common.{◌≡◌, ◌≤◌, ◌+◌, ℕ, max, List, [], ◌++◌, length, drop, refl, sym, ap, ◌∙◌, subst, arith}
 use Rattle.std.proofs.lemmas.List.{length-append, take-append-le}
 use Rattle.xb_bits.specs.Word.{Word}
 use Rattle.xb_value.specs.declared.value.Value.{Value}
@@ -11,7 +11,7 @@ use Rattle.ir_tree.specs.declared.package.Channel.{Channel}
 use Rattle.ir_tree.specs.declared.package.Proc.{Proc}
 use Rattle.ir_tree.specs.Activations.{activation, sites_of}
 use Rattle.ir_eval.specs.Inner.Stands.{StandsBehind}
-use Rattle.ir_eval.specs.Inner.Keeps.{KeepsWalk}
+use Rattle.ir_eval.specs.Inner.Keeps.{KeepsNodes}
 
 pub stands_first : (channels : List Channel) (proc : Proc) (s : Value) (got : List Word) (done : ℕ) → StandsBehind channels proc s got done [] 0 0 proc.nodes
 unfolding next_event activation
@@ -37,7 +37,7 @@ moved channels proc s got done vs ws i j k m left e f g st =
 first_left : {A : Type 0} (k : ℕ) (xs : List A) → k ≡ 0 → drop k xs ≡ xs
 first_left k xs e = rw e refl
 
-pub keeps_begin : (channels : List Channel) (proc : Proc) (kept : Activation) (s : Value) (got : List Word) (done : ℕ) → IsNothing kept → KeepsWalk channels proc kept s got done
+pub keeps_begin : (channels : List Channel) (proc : Proc) (kept : Activation) (s : Value) (got : List Word) (done : ℕ) → IsNothing kept → KeepsNodes channels proc kept s got done
 keeps_begin channels proc kept s got done n =
     let all_left : drop kept.steps proc.nodes ≡ proc.nodes = first_left kept.steps proc.nodes n.steps in
     record {
@@ -50,7 +50,7 @@ keeps_begin channels proc kept s got done n =
     }
 
 pub keeps_stay : (channels : List Channel) (proc : Proc) (kept : Activation) (s : Value) (got more : List Word) (done later : ℕ) → done ≤ later
-    → KeepsWalk channels proc kept s got done → KeepsWalk channels proc kept s (got ++ more) later
+    → KeepsNodes channels proc kept s got done → KeepsNodes channels proc kept s (got ++ more) later
 keeps_stay channels proc kept s got more done later h k = record {
   few = k.few;
   less = k.less;

@@ -20,6 +20,6 @@ abbrev pub StandsFor : List Channel → Proc → Value → List Word → ℕ →
 StandsFor channels proc s got done walk left = StandsLater channels proc s got done walk.values.items walk.site walk.taken left
 
 -- a walk that comes to an event waits there
-abbrev pub WaitsIf : Walk → Walk → Option Event → Type 0
-WaitsIf old new None = Unit {0}
-WaitsIf old new (Some event) = new ≡ old
+abbrev pub StaysIf : Walk → Walk → Option Event → Type 0
+StaysIf old new None = Unit {0}
+StaysIf old new (Some event) = new ≡ old

@@ -123,7 +123,7 @@ TriesEvent old new p (Send i w) made = (here : SiteData) → IsSiteData old p i 
 TriesEvent old new p (End s) made = (made ≡ true) × ((progress : Progress) → slice_get old.procs.items p ≡ Some progress → IsEndMade old new p progress s)
 
 -- what is kept of an activation stays, unless the event is its end
-abbrev pub EndsWith : Event → Activation → Activation → Type 0
-EndsWith (Recv i) old new = new ≡ old
-EndsWith (Send i w) old new = new ≡ old
-EndsWith (End s) old new = IsNothing new
+abbrev pub LeavesKept : Event → Activation → Activation → Type 0
+LeavesKept (Recv i) old new = new ≡ old
+LeavesKept (Send i w) old new = new ≡ old
+LeavesKept (End s) old new = IsNothing new

@@ -1,5 +1,5 @@
 -- A walk that goes on where an activation stood, and is kept where it waits.
-use Rattle.std.proofs.Common.{◌≡◌, ℕ, ◌+◌, ◌<◌, ◌≤◌, List, [], ◌∷◌, ◌++◌, length, drop, get_or, true, Option, Some, None, refl, sym, ap, subst, ◌∙◌, arith}
+use Rattle.std.proofs.Common.{◌≡◌, ℕ, ◌+◌, ◌<◌, List, [], ◌∷◌, ◌++◌, length, drop, get_or, true, Option, Some, None, refl, sym, ap, subst, ◌∙◌, arith}
 use Rattle.std.proofs.lemmas.List.{append-nil}
 use Rattle.xb_bits.specs.Word.{Word}
 use Rattle.xb_value.specs.declared.value.Value.{Value}
@@ -16,7 +16,7 @@ use Rattle.dslx_core.specs.declared.step.Step.{Step}
 use Rattle.dslx_core.specs.declared.step.Step.TheVariants as form
 use Rattle.dslx_interp.specs.Network.Bodies.{behavior_at}
 use Rattle.dslx_interp.specs.Network.Inner.Keeps.{IsNextLater, KeepsAs, KeepsSteps, KeepsWalk, walk_of}
-use Rattle.dslx_interp.specs.Network.Inner.Walking.{GoesOn, HasKept, IsSentAt, IsSentFirst, KeepsIf, StandsStill, WaitsIf, bound_from, event_here, is_at_site}
+use Rattle.dslx_interp.specs.Network.Inner.Walking.{GoesLater, HasKept, IsSentAt, IsSentFirst, KeepsIf, StandsStill, WaitsIf, bound_from, event_here, is_at_site}
 use Rattle.dslx_interp.specs.declared.network.body.DslxBody.{DslxBody}
 use Rattle.dslx_interp.specs.declared.network.walk.Walk.{Walk}
 use Rattle.dslx_interp.proofs.OnNetwork.OnBody.Bodies.{begins}
@@ -47,14 +47,14 @@ next_now design number i calls s got done walk left next =
 module _ (design : Design) (number : ℕ) (i : Instance) (calls : Functions) (s : Value) (got : List Word) (done : ℕ) (old new : Walk) (steps : List Step) (k : ℕ) (x : Step)
     (within : k < length steps) (is : x ≡ get_or steps k x) (next : IsNextLater design number i calls s got done old (drop k steps)) where
   -- a walk goes on by a step
-  pub step_past : GoesOn (do_step calls x) got done old new None → IsNextLater design number i calls s got done new (drop (k + 1) steps)
+  pub step_past : GoesLater (do_step calls x) got done old new None → IsNextLater design number i calls s got done new (drop (k + 1) steps)
   step_past goes more later h =
       sym (goes more later h (do_steps calls (drop (k + 1) steps) i.next))
       ∙ ap (λ left. event_here (do_steps calls left i.next) (got ++ more) later old) (sym (drop_there steps k x within is))
       ∙ next more later h
 
   -- the event that a step gives
-  pub step_event : (event : Event) → GoesOn (do_step calls x) got done old new (Some event) → event ≡ next_event (behavior_at design number i) s got done
+  pub step_event : (event : Event) → GoesLater (do_step calls x) got done old new (Some event) → event ≡ next_event (behavior_at design number i) s got done
   step_event event goes =
       sym (goes (do_steps calls (drop (k + 1) steps) i.next))
       ∙ ap (λ left. event_here (do_steps calls left i.next) got done old) (sym (drop_there steps k x within is))
@@ -78,7 +78,7 @@ module _ (body : DslxBody) (functions : List Function) (steps : List Step) (s : 
       → KeepsAs vs (body.design.now) body.number (body.instance.now) kept s got done
       → IsNextLater (body.design.now) body.number (body.instance.now) (functions_from 0 functions no_function) s got done walk (drop kept.steps steps)
   resumed_as [] walk e bound received site k more later h =
-      begins body functions (drop kept.steps steps) s (got ++ more) later walk same_functions (drop_zero kept.steps steps k.0 ∙ same_steps) bound (received ∙ k.2.0) (site ∙ k.1)
+      begins body functions (drop kept.steps steps) s (got ++ more) later walk same_functions (drop_zero kept.steps steps k.0 ∙ same_steps) bound (received ∙ k.2) (site ∙ k.1)
   resumed_as (v ∷ vs) walk e bound received site k more later h =
       ap (λ calls. event_here (do_steps calls (drop kept.steps steps) (body.instance.now).next) (got ++ more) later walk) calls_are
       ∙ ap (λ left. event_here (do_steps (functions_of (body.design.now)) left (body.instance.now).next) (got ++ more) later walk) (left_is kept.steps)
@@ -94,7 +94,7 @@ module _ (body : DslxBody) (functions : List Function) (steps : List Step) (s : 
   sent_as : (vs : Bindings) (walk : Walk) → kept.values.items ≡ vs → walk.bound.items ≡ bound_from vs s
       → KeepsAs vs (body.design.now) body.number (body.instance.now) kept s got done
       → IsSentFirst (functions_from 0 functions no_function) (drop kept.steps steps) walk.bound.items kept.sent
-  sent_as [] walk e bound k = none_sent _ _ _ _ k.2.1
+  sent_as [] walk e bound k = none_sent (functions_from 0 functions no_function) (drop kept.steps steps) walk.bound.items kept.sent k.3
   sent_as (v ∷ vs) walk e bound k =
       subst (λ calls. IsSentFirst calls (drop kept.steps steps) walk.bound.items kept.sent) (sym calls_are)
       (subst (λ left. IsSentFirst (functions_of (body.design.now)) left walk.bound.items kept.sent) (sym (left_is kept.steps))

@@ -1,6 +1,6 @@
 -- What each kind of step does to a walk.
 use Rattle.std.proofs.Common.{◌≡◌, ℕ, zero, suc, ◌+◌, ◌-◌, ◌<◌, ◌≤◌, List, [], ◌∷◌, ◌++◌, drop, Bool, true, false, Option, Some, None, refl, sym, ap, subst, ◌∙◌, arith}
-use Rattle.std.specs.Prelude.{slice_get, unwrap_or, option_map}
+use Rattle.std.specs.Prelude.{slice_get, unwrap_or}
 use Rattle.std.proofs.lemmas.List.{append-nil}
 use Rattle.std.proofs.lemmas.Option.{slice_get_within}
 use Rattle.base.proofs.Lemmas.Lists.Indices.{slice_get-append_left}
@@ -18,7 +18,7 @@ use Rattle.dslx_core.specs.Designs.{Behind, CoreActivity, apart_then, condition_
 use Rattle.dslx_core.specs.declared.expr.CoreExpr.{CoreExpr}
 use Rattle.dslx_core.specs.declared.expr.Shape.{Shape}
 use Rattle.dslx_interp.specs.declared.network.walk.Walk.{Walk}
-use Rattle.dslx_interp.specs.Network.Inner.Walking.{SendsAWord, Goes, GoesOn, BindsOrEnds, HasWordIf, IsWordFor, StandsStill, WaitsIf, bound_then, event_behind, event_here, first_event, give_then, receive_off, send_off}
+use Rattle.dslx_interp.specs.Network.Inner.Walking.{SendsAWord, Goes, GoesLater, BindsOrEnds, HasWordIf, IsWordFor, StandsStill, WaitsIf, bound_then, event_behind, event_here, first_event, give_then, receive_off, send_off}
 
 ended_is : (k i : ℕ) → event_behind no_activity k i ≡ End token
 unfolding first_event
@@ -53,13 +53,13 @@ goes_on_from f got done old mid new ended stays h = goes_from f f got done old m
 
 -- what a step does whatever comes later
 pub later_goes : (f : Behind → Behind) (got : List Word) (done : ℕ) (old new : Walk) (ended : Option Event)
-    → ((more : List Word) (later : ℕ) → done ≤ later → Goes f (got ++ more) later old new ended) → GoesOn f got done old new ended
+    → ((more : List Word) (later : ℕ) → done ≤ later → Goes f (got ++ more) later old new ended) → GoesLater f got done old new ended
 later_goes f got done old new None h = h
 later_goes f got done old new (Some event) h = subst (λ all. Goes f all done old new (Some event)) (append-nil got) (h [] done (omega arith))
 
 -- what another step does from where a walk stands, this one does
 pub goes_under : (f g : Behind → Behind) (got : List Word) (done : ℕ) (old mid new : Walk) (ended : Option Event)
-    → ((all : List Word) (later : ℕ) → Goes g all later mid new ended → Goes f all later old new ended) → GoesOn g got done mid new ended → GoesOn f got done old new ended
+    → ((all : List Word) (later : ℕ) → Goes g all later mid new ended → Goes f all later old new ended) → GoesLater g got done mid new ended → GoesLater f got done old new ended
 goes_under f g got done old mid new None m h = λ more later l. m (got ++ more) later (h more later l)
 goes_under f g got done old mid new (Some event) m h = m got done h
 
@@ -274,23 +274,23 @@ module _ (calls : Functions) (e on : CoreExpr) (shape : Shape) (got : List Word)
 
 -- so it is whatever comes later, from where a walk stands that has looked at the condition
 module _ (calls : Functions) (t : Ty) (on otherwise : CoreExpr) (shape : Shape) (got : List Word) (done : ℕ) (old mid new : Walk) (ended : Option Event) (stays : StandsStill old mid) where
-  pub receive_later_on : Some true ≡ condition_at calls on old.bound.items → GoesOn (receive_on t shape) got done mid new ended → GoesOn (receive_if calls t (Some (on, otherwise)) shape) got done old new ended
+  pub receive_later_on : Some true ≡ condition_at calls on old.bound.items → GoesLater (receive_on t shape) got done mid new ended → GoesLater (receive_if calls t (Some (on, otherwise)) shape) got done old new ended
   receive_later_on is h =
       goes_under (receive_if calls t (Some (on, otherwise)) shape) (receive_on t shape) got done old mid new ended
       (λ all later k. receive_is_on calls t on otherwise shape all later old new ended is (goes_on_from (receive_on t shape) all later old mid new ended stays k)) h
 
-  pub receive_later_off : Some false ≡ condition_at calls on old.bound.items → GoesOn (receive_off calls otherwise shape) got done mid new ended → GoesOn (receive_if calls t (Some (on, otherwise)) shape) got done old new ended
+  pub receive_later_off : Some false ≡ condition_at calls on old.bound.items → GoesLater (receive_off calls otherwise shape) got done mid new ended → GoesLater (receive_if calls t (Some (on, otherwise)) shape) got done old new ended
   receive_later_off is h =
       goes_under (receive_if calls t (Some (on, otherwise)) shape) (receive_off calls otherwise shape) got done old mid new ended
       (λ all later k. receive_is_off calls t on otherwise shape all later old new ended is (goes_on_from (receive_off calls otherwise shape) all later old mid new ended stays k)) h
 
 module _ (calls : Functions) (e on : CoreExpr) (shape : Shape) (got : List Word) (done : ℕ) (old mid new : Walk) (ended : Option Event) (stays : StandsStill old mid) where
-  pub send_later_on : Some true ≡ condition_at calls on old.bound.items → GoesOn (give_then calls e shape) got done mid new ended → GoesOn (send_if calls e (Some on) shape) got done old new ended
+  pub send_later_on : Some true ≡ condition_at calls on old.bound.items → GoesLater (give_then calls e shape) got done mid new ended → GoesLater (send_if calls e (Some on) shape) got done old new ended
   send_later_on is h =
       goes_under (send_if calls e (Some on) shape) (give_then calls e shape) got done old mid new ended
       (λ all later k. send_is_on calls e on shape all later old new ended is (goes_on_from (give_then calls e shape) all later old mid new ended stays k)) h
 
-  pub send_later_off : Some false ≡ condition_at calls on old.bound.items → GoesOn (send_off shape) got done mid new ended → GoesOn (send_if calls e (Some on) shape) got done old new ended
+  pub send_later_off : Some false ≡ condition_at calls on old.bound.items → GoesLater (send_off shape) got done mid new ended → GoesLater (send_if calls e (Some on) shape) got done old new ended
   send_later_off is h =
       goes_under (send_if calls e (Some on) shape) (send_off shape) got done old mid new ended
       (λ all later k. send_is_off calls e on shape all later old new ended is (goes_on_from (send_off shape) all later old mid new ended stays k)) h
@@ -311,7 +311,7 @@ known_value (Some v) w h = let same : flat_of v ≡ w = cc in (v, refl, same)
 -- a walk goes past a send that has a word
 pub past_send : (calls : Functions) (e : CoreExpr) (shape : Shape) (got : List Word) (done : ℕ) (old stood mid new : Walk) (ended : Option Event) → old.site < done
     → HasWordIf (core_value e calls old.bound.items) old stood true → mid.bound ≡ stood.bound → mid.received ≡ stood.received → mid.site ≡ stood.site + 1
-    → BindsOrEnds shape token mid new ended → GoesOn (give_then calls e shape) got done old new ended
+    → BindsOrEnds shape token mid new ended → GoesLater (give_then calls e shape) got done old new ended
 past_send calls e shape got done old stood mid new ended before there bound r s h =
     later_goes (give_then calls e shape) got done old new ended (λ more later l.
     goes_on_from (give_then calls e shape) (got ++ more) later old stood new ended there.1

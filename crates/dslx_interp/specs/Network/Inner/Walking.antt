@@ -64,9 +64,9 @@ Goes step got done old new None = (rest : Behind) → event_here (step rest) got
 Goes step got done old new (Some event) = (rest : Behind) → event_here (step rest) got done old ≡ event
 
 -- where it goes on, so it does later in the activation, with more words and more sites past
-abbrev pub GoesOn : (Behind → Behind) → List Word → ℕ → Walk → Walk → Option Event → Type 0
-GoesOn step got done old new None = (more : List Word) (later : ℕ) → done ≤ later → Goes step (got ++ more) later old new None
-GoesOn step got done old new (Some event) = Goes step got done old new (Some event)
+abbrev pub GoesLater : (Behind → Behind) → List Word → ℕ → Walk → Walk → Option Event → Type 0
+GoesLater step got done old new None = (more : List Word) (later : ℕ) → done ≤ later → Goes step (got ++ more) later old new None
+GoesLater step got done old new (Some event) = Goes step got done old new (Some event)
 
 -- a walk that comes to the event of a site waits there
 abbrev pub WaitsIf : Walk → Walk → Option Event → Type 0

@@ -1,12 +1,12 @@
-use Rattle.std.proofs.Common.{◌≡◌, ◌≤◌, ◌<◌, ◌+◌, ◌^◌, None, Some, MatchOption, sym, length, drop, ap, ◌∙◌, arith, refl, subst, IfOk, Ok, Err, Result}
+use Rattle.std.proofs.Common.{◌≡◌, ◌≤◌, ◌+◌, MatchOption, sym, length, drop, ap, ◌∙◌, arith, refl, subst, IfOk, Ok, Err, Result}
 use Rattle.std.proofs.lemmas.List.{drop_all}
 use Rattle.net_core.specs.declared.event.Event.{Event}
 use Rattle.ir_tree.specs.Rules.Typed.Typed.{AreChannels}
 use Rattle.ir_tree.proofs.Lemmas.Rules.Typed.{verified_proc}
 use Rattle.net_core.specs.Behavior.{next_event}
 use Rattle.ir_tree.specs.Activations.{activation, sites_of}
-use Rattle.ir_eval.specs.Inner.Walks.{StandsFor, WaitsIf}
-use Rattle.ir_eval.specs.Inner.Keeps.{KeepsWalk}
+use Rattle.ir_eval.specs.Inner.Walks.{StandsFor, StaysIf}
+use Rattle.ir_eval.specs.Inner.Keeps.{KeepsNodes}
 use Rattle.ir_eval.specs.Inner.Kept.{keeps_begin}
 use Rattle.ir_eval.proofs.Kept.{keeps_walk, walk_kept, step_from, few_left}
 use Rattle.ir_eval.proofs.WalkSteps.{end_next}
@@ -77,7 +77,7 @@ pub keep-requires : goal.keep-requires
 keep-requires c =
     let body = c.args.self.now in
     let few : length (sites_of body.proc.now.nodes) ≤ 32 = (verified_proc body.ir.now body.verified body.number body.proc.now body.there).sites in
-    let waits : c.step.new.self ≡ c.nodes.walk = subst (λ o. WaitsIf c.nodes.walk c.step.new.self o) c.in-Some.is c.in_ok-step.ensures.waits in
+    let waits : c.step.new.self ≡ c.nodes.walk = subst (λ o. StaysIf c.nodes.walk c.step.new.self o) c.in-Some.is c.in_ok-step.ensures.waits in
     let site = ap (λ (w : Walk). w.site) waits in
     omega (arith, c.nodes.invariant.few, few, site)
 
@@ -94,15 +94,15 @@ pub returns-in-Some-clause-keeps : goal.returns-in-Some-clause-keeps
 returns-in-Some-clause-keeps c =
     let body = c.args.self.now in
     let proc = body.proc.now in
-    let waits : c.step.new.self ≡ c.nodes.walk = subst (λ o. WaitsIf c.nodes.walk c.step.new.self o) c.in-Some.is c.in_ok-step.ensures.waits in
+    let waits : c.step.new.self ≡ c.nodes.walk = subst (λ o. StaysIf c.nodes.walk c.step.new.self o) c.in-Some.is c.in_ok-step.ensures.waits in
     let site = ap (λ (w : Walk). w.site) waits in
     let taken = ap (λ (w : Walk). w.taken) waits in
     elim c.if-walk-got.branch [
-      | then-walk-got w ↦ subst (λ k. KeepsWalk body.ir.now.channels proc k c.args.state.now c.args.got.now c.args.done) (sym w.kept-is)
+      | then-walk-got w ↦ subst (λ k. KeepsNodes body.ir.now.channels proc k c.args.state.now c.args.got.now c.args.done) (sym w.kept-is)
           (keeps_walk body.ir.now.channels proc w.keep.new.kept c.args.state.now c.args.got.now c.args.done c.step.new.self c.nodes.number
           w.keep.ensures.values w.keep.ensures.steps w.keep.ensures.sites w.keep.ensures.words
           (omega (arith, site, c.nodes.invariant.few)) (omega (arith, taken, c.nodes.invariant.less)) (omega (arith, w.if-walk-got.true))
           (subst (λ (x : Walk). StandsFor body.ir.now.channels proc c.args.state.now c.args.got.now c.args.done x (drop c.nodes.number proc.nodes)) (sym waits) c.nodes.invariant.stands))
-      | else-walk-got w ↦ subst (λ k. KeepsWalk body.ir.now.channels proc k c.args.state.now c.args.got.now c.args.done) (sym w.kept-is)
+      | else-walk-got w ↦ subst (λ k. KeepsNodes body.ir.now.channels proc k c.args.state.now c.args.got.now c.args.done) (sym w.kept-is)
           (keeps_begin body.ir.now.channels proc _ _ _ _ c.nodes.invariant.nothing)
     ]

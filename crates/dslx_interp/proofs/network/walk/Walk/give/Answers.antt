@@ -1,10 +1,10 @@
-use Rattle.std.proofs.Common.{◌≡◌, ◌∙◌, None, Some, refl, ap, sym, subst}
+use Rattle.std.proofs.Common.{◌≡◌, ◌∙◌, None, Some, ap, sym, subst}
 use Rattle.net_core.specs.declared.event.Event.TheVariants.{Send}
 use Rattle.xb_value.specs.Flat.{flat_of}
 use Rattle.dslx_core.specs.CoreValues.{core_value}
 use Rattle.dslx_core.specs.Designs.{functions_from, no_function}
-use Rattle.dslx_interp.specs.Network.Inner.Walking.{IsWordFor, SendsAWord, StandsStill, StandsStillIf, give_then}
-use Rattle.dslx_interp.proofs.OnNetwork.OnBody.Stepping.{ended_waits, known_value, send_here, send_without, stands_as, word_here}
+use Rattle.dslx_interp.specs.Network.Inner.Walking.{IsWordFor, StandsStill, StandsStillIf}
+use Rattle.dslx_interp.proofs.OnNetwork.OnBody.Stepping.{ended_waits, known_value, send_here, send_without, word_here}
 use Rattle.dslx_interp.proofs.network.walk.Walk.give.Goals as goal
 
 pub returns-in-Some-clause-goes : goal.returns-in-Some-clause-goes
@@ -14,14 +14,14 @@ returns-in-Some-clause-goes c =
     λ rest. send_here calls c.args.send.now.word c.args.send.now.shape c.args.got.now c.args.done c.args.self.now c.args.self.now known.0 c.requires.asked (sym known.1) rest
     ∙ ap (Send c.args.self.now.site) known.2
 
-pub returns-in_default-clause-goes : goal.returns-in_default-clause-goes
-returns-in_default-clause-goes c =
+pub returns-in_default-2-clause-goes : goal.returns-in_default-2-clause-goes
+returns-in_default-2-clause-goes c =
     let calls = functions_from 0 c.args.functions.now no_function in
-    let is : None ≡ core_value c.args.send.now.word calls c.args.self.now.bound.items = sym c.in_default.is ∙ c.in_ok-value.ensures.value in
+    let is : None ≡ core_value c.args.send.now.word calls c.args.self.now.bound.items = sym c.in_default-2.is ∙ c.in_ok-value.ensures.value in
     λ rest. send_without calls c.args.send.now.word c.args.send.now.shape c.args.got.now c.args.done c.args.self.now c.args.self.now is rest ∙ sym c.ended.ensures
 
-pub returns-in_default-clause-waits : goal.returns-in_default-clause-waits
-returns-in_default-clause-waits c = ended_waits _ _ _ c.ended.ensures
+pub returns-in_default-2-clause-waits : goal.returns-in_default-2-clause-waits
+returns-in_default-2-clause-waits c = ended_waits c.args.self.now c.value.new.self _ c.ended.ensures
 
 pub flat-word-requires-clause-some_width : goal.flat-word-requires-clause-some_width
 flat-word-requires-clause-some_width c =

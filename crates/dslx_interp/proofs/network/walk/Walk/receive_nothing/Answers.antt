@@ -24,7 +24,7 @@ returns-clause-goes c =
     c.take.ensures.binds
 
 pub returns-in_default-clause-waits : goal.returns-in_default-clause-waits
-returns-in_default-clause-waits c = ended_waits _ _ _ c.ended.ensures
+returns-in_default-clause-waits c = ended_waits c.args.self.now c.value.new.self _ c.ended.ensures
 
 pub returns-clause-waits : goal.returns-clause-waits
-returns-clause-waits c = IfOk-weaker c.take.result _ _ (λ ended h. bound_waits _ _ _ _ _ ended h) c.take.ensures.binds
+returns-clause-waits c = IfOk-weaker c.take.result _ _ (λ ended h. bound_waits c.args.shape.now c.in_ok-pair.pair c.args.self.now c.pass.new.self c.take.new.self ended h) c.take.ensures.binds

@@ -30,7 +30,7 @@ returns-clause-goes c =
     c.take.ensures.binds
 
 pub returns-in_default-clause-waits : goal.returns-in_default-clause-waits
-returns-in_default-clause-waits c = ended_waits _ _ _ c.ended.ensures
+returns-in_default-clause-waits c = ended_waits c.args.self.now c.args.self.now _ c.ended.ensures
 
 pub returns-clause-waits : goal.returns-clause-waits
-returns-clause-waits c = IfOk-weaker c.take.result _ _ (λ ended h. bound_waits _ _ _ _ _ ended h) c.take.ensures.binds
+returns-clause-waits c = IfOk-weaker c.take.result _ _ (λ ended h. bound_waits c.args.receive.now.shape c.in_ok-value.value c.args.self.now (record { bound = c.args.self.now.bound; received = c.args.self.now.received + 1; site = c.args.self.now.site + 1 }) c.take.new.self ended h) c.take.ensures.binds

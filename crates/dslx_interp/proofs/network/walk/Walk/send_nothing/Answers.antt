@@ -15,4 +15,4 @@ returns-clause-goes c =
     c.take.ensures.binds
 
 pub returns-clause-waits : goal.returns-clause-waits
-returns-clause-waits c = IfOk-weaker c.take.result _ _ (λ ended h. bound_waits _ _ _ _ _ ended h) c.take.ensures.binds
+returns-clause-waits c = IfOk-weaker c.take.result _ _ (λ ended h. bound_waits c.args.shape.now c.token.result c.args.self.now c.pass.new.self c.take.new.self ended h) c.take.ensures.binds
