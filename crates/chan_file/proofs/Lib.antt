@@ -1,4 +1,5 @@
 pub mod Lemmas
 pub mod Names
+pub mod Numbers
 pub mod Written
 pub mod Lines

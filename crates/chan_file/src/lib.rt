@@ -10,6 +10,7 @@ mod inputs;
 pub mod laws;
 mod line;
 mod named;
+mod number;
 mod outcome;
 mod refusal;
 

@@ -11,6 +11,7 @@ ghost use Rattle.chan_file.specs.Inner.Form.{form_of};
 ghost use Rattle.net_core.specs.declared.net.Net.{Net};
 
 use crate::named::{Named, Numbers, number_of};
+use crate::number::word_in;
 use crate::refusal::Cause;
 use base::texts::{begins_word, is_utf8, is_word_byte};
 use net_core::Net;
@@ -79,8 +80,24 @@ fn said_of_word(alloc: Global, net: &Net, named: &Named, line: &[u8]) -> Result<
     }
 }
 
-/// What a line says as a word of a channel of the type.
+/// What a line says as a word of a channel of the type. A number of a number type takes no memory.
 fn read_word(alloc: Global, ty: &Ty, chan: u32, line: &[u8]) -> Result<Said, AllocError>
+    requires short { length line.now < 2 ^ 32 }
+    requires some_width { 1 ≤ width_of ty.now }
+    requires most_width { width_of ty.now ≤ 128 }
+    ensures { IfOk result (SaysWord chan ty.now line.now) }
+{
+    match ty {
+        Ty::Bits(width) => match word_in(*width, line) {
+            Some(word) => Ok(Said::Word(chan, word)),
+            None => read_value_word(alloc, ty, chan, line),
+        },
+        _ => read_value_word(alloc, ty, chan, line),
+    }
+}
+
+/// The same of a line of any form, by way of the value that it spells.
+fn read_value_word(alloc: Global, ty: &Ty, chan: u32, line: &[u8]) -> Result<Said, AllocError>
     requires short { length line.now < 2 ^ 32 }
     requires some_width { 1 ≤ width_of ty.now }
     requires most_width { width_of ty.now ≤ 128 }

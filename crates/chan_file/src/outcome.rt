@@ -7,11 +7,12 @@ ghost use Rattle.net_core.specs.declared.outcome.Stream.{Stream};
 ghost use Rattle.xb_value.specs.Width.{width_of, HasWidths};
 ghost use Rattle.chan_file.specs.OutcomeText.{outcome_text, stream_head, stream_line, proc_line, lines_by, word_text, kind_text, counts_text, end_text, chan_name};
 
+use crate::number::push_number;
 use base::texts::push_decimal;
 use net_core::{Chan, Kind, Net, Outcome, ProcEnd, ProcHead, Stall, Stream};
 use std::alloc::{AllocError, Global};
 use xb_bits::Bits;
-use xb_value::{at, push_value, unflat};
+use xb_value::{Ty, at, push_value, unflat};
 
 /// What a run shows: a line for each channel, and then a line for each proc.
 pub fn outcome_text(alloc: Global, net: &Net, outcome: &Outcome) -> Result<String, AllocError>
@@ -137,8 +138,25 @@ fn push_words(
     Ok(())
 }
 
-/// Appends a space and a word as a value of its channel's type.
+/// Appends a space and a word as a value of its channel's type. A word of a number type takes no memory but the text's.
 fn push_word(alloc: Global, text: &mut String, chan: &Chan, word: Bits) -> Result<(), AllocError>
+    requires widths { HasWidths chan.now.ty }
+    requires fits { width_of chan.now.ty ≡ word.width }
+    ensures { OnOk result (string_bytes text.new ≡ string_bytes text.old ++ word_text chan.now word) }
+{
+    match &chan.ty {
+        Ty::Bits(_) => push_number(text, word),
+        _ => push_value_word(alloc, text, chan, word),
+    }
+}
+
+/// The same of a word of any type, by way of its value.
+fn push_value_word(
+    alloc: Global,
+    text: &mut String,
+    chan: &Chan,
+    word: Bits,
+) -> Result<(), AllocError>
     requires widths { HasWidths chan.now.ty }
     requires fits { width_of chan.now.ty ≡ word.width }
     ensures { OnOk result (string_bytes text.new ≡ string_bytes text.old ++ word_text chan.now word) }
