@@ -2,11 +2,10 @@
 //! No word takes memory of its own.
 
 ghost use Rattle.std.specs.Prelude.{◌≡◌, ◌<◌, ◌≤◌, ◌+◌, ◌-◌, ◌/◌, ◌^◌, ◌∷◌, ◌++◌, Some, OnOk, codes, bytes_eq, string_bytes, take, drop, length, IsTrue, IsAscii};
-ghost use Rattle.std.specs.Char.{digit_char};
+ghost use Rattle.std.specs.Char.{digit_char, digit_value};
 ghost use Rattle.base.specs.Texts.Hexadecimal.{hex_digits};
 ghost use Rattle.chan_file.specs.Inner.Number.{number_of, number_in, held_in, word_in};
 
-use base::texts::digit_value;
 use std::alloc::AllocError;
 use xb_bits::Bits;
 
@@ -61,7 +60,7 @@ fn number_of(digits: &[u8]) -> Option<u128>
     }
     let mut number = 0u128;
     'digits: for byte in digits {
-        let digit = digit_value(*byte);
+        let digit = value_at(*byte);
         if digit >= 16 {
             return None;
         }
@@ -69,6 +68,29 @@ fn number_of(digits: &[u8]) -> Option<u128>
     }
     Some(number)
 }
+
+/// The value of a digit or a letter, and 36 for any other byte. It is looked up, since the digits of numbers come in no
+/// order that tests could foresee.
+fn value_at(byte: u8) -> u8
+    ensures { result ≡ digit_value byte }
+{
+    VALUES[byte as usize]
+}
+
+/// The values of all bytes.
+static VALUES: [u8; 256] = [
+    36, 36, 36, 36, 36, 36, 36, 36, 36, 36, 36, 36, 36, 36, 36, 36, 36, 36, 36, 36, 36, 36, 36, 36,
+    36, 36, 36, 36, 36, 36, 36, 36, 36, 36, 36, 36, 36, 36, 36, 36, 36, 36, 36, 36, 36, 36, 36, 36,
+    0, 1, 2, 3, 4, 5, 6, 7, 8, 9, 36, 36, 36, 36, 36, 36, 36, 10, 11, 12, 13, 14, 15, 16, 17, 18,
+    19, 20, 21, 22, 23, 24, 25, 26, 27, 28, 29, 30, 31, 32, 33, 34, 35, 36, 36, 36, 36, 36, 36, 10,
+    11, 12, 13, 14, 15, 16, 17, 18, 19, 20, 21, 22, 23, 24, 25, 26, 27, 28, 29, 30, 31, 32, 33, 34,
+    35, 36, 36, 36, 36, 36, 36, 36, 36, 36, 36, 36, 36, 36, 36, 36, 36, 36, 36, 36, 36, 36, 36, 36,
+    36, 36, 36, 36, 36, 36, 36, 36, 36, 36, 36, 36, 36, 36, 36, 36, 36, 36, 36, 36, 36, 36, 36, 36,
+    36, 36, 36, 36, 36, 36, 36, 36, 36, 36, 36, 36, 36, 36, 36, 36, 36, 36, 36, 36, 36, 36, 36, 36,
+    36, 36, 36, 36, 36, 36, 36, 36, 36, 36, 36, 36, 36, 36, 36, 36, 36, 36, 36, 36, 36, 36, 36, 36,
+    36, 36, 36, 36, 36, 36, 36, 36, 36, 36, 36, 36, 36, 36, 36, 36, 36, 36, 36, 36, 36, 36, 36, 36,
+    36, 36, 36, 36, 36, 36, 36, 36, 36, 36, 36, 36, 36, 36,
+];
 
 /// Appends a space, `0x` and as many digits as the word's width needs. It allocates nothing but what the text grows by.
 pub fn push_number(text: &mut String, word: Bits) -> Result<(), AllocError>

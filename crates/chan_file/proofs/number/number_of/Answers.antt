@@ -5,7 +5,7 @@ use Rattle.chan_file.proofs.number.number_of.Goals as goal
 
 pub overflow_mul-number : goal.overflow_mul-number
 overflow_mul-number c =
-    omega (arith, more_fits c.digits.number c.digits.byte-index c.digit_value-digit.result c.digits.invariant.below (omega arith) (omega arith))
+    omega (arith, more_fits c.digits.number c.digits.byte-index c.value_at-digit.result c.digits.invariant.below (omega arith) (omega arith))
 
 pub overflow_add-number : goal.overflow_add-number
 overflow_add-number c =
@@ -13,7 +13,7 @@ overflow_add-number c =
 
 pub digits-preserved : goal.digits-preserved
 digits-preserved c =
-    let digit : c.from.result ≡ digit_value (get_or c.args.digits.now c.digits.byte-index 0) = c.from.ensures ∙ c.digit_value-digit.ensures in
+    let digit : c.from.result ≡ digit_value (get_or c.args.digits.now c.digits.byte-index 0) = c.from.ensures ∙ c.value_at-digit.ensures in
     record {
       digits = all_more c.args.digits.now c.digits.byte-index c.from.result (omega arith) digit (omega (arith, c.from.ensures)) c.digits.invariant.digits;
       number = value_more c.args.digits.now c.digits.byte-index c.from.result c.digits.number _ (omega arith) digit c.digits.invariant.number;
