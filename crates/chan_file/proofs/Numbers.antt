@@ -1,6 +1,6 @@
 -- Words of a number type as texts: what is read of one is what the grammar of values says, and what is written is its text.
 use Rattle.std.proofs.Common.{◌≡◌, ℕ, zero, suc, ◌+◌, ◌-◌, ◌*◌, ◌/◌, ◌%◌, ◌^◌, ◌<◌, ◌≤◌, ◌==◌, nat_lt, nat_le, List, [], ◌∷◌, ◌++◌, length, take, drop, set, get_or, codes, Bool, true, false, ◌&&◌, if◌then◌else◌, Option, Some, None, IsTrue, refl, sym, ap, subst, ◌∙◌, arith, length-set, take_all}
-use Rattle.std.specs.Prelude.{bytes_eq}
+use Rattle.std.specs.Prelude.{bytes_eq, slice_get}
 use Rattle.std.specs.List.{list_all}
 use Rattle.std.specs.Char.{is_ascii_hexdigit, digit_value, digit_char}
 use Rattle.std.specs.Str.{IsAscii}
@@ -16,6 +16,7 @@ use Rattle.base.specs.Texts.Hexadecimal.{hex_digits}
 use Rattle.base.proofs.Lemmas.Texts.Hexadecimal.{length-hex_digits}
 use Rattle.xb_bits.specs.Word.{Word, word}
 use Rattle.net_core.specs.declared.net.Chan.{Chan}
+use Rattle.net_core.specs.declared.net.Net.{Net}
 use Rattle.xb_value.specs.declared.token.Token.TheVariants.{Number}
 use Rattle.xb_value.specs.declared.ty.Ty.{Ty}
 use Rattle.xb_value.specs.declared.ty.Ty as ty
@@ -33,9 +34,13 @@ use Rattle.xb_value.proofs.Lemmas.Typing.{fits-Bits}
 use Rattle.xb_value.proofs.Lemmas.Values as values
 use Rattle.xb_value.proofs.Lemmas.Values.{flat_of-Bits, shape_of-Bits}
 use Rattle.chan_file.specs.declared.line.Said.TheVariants.{Word as AWord}
-use Rattle.chan_file.specs.ChannelFile.{SaysWord}
+use Rattle.chan_file.specs.declared.named.Named.{Named}
+use Rattle.chan_file.specs.ChannelFile.{SaysLine, word_line, SaysWord}
+use Rattle.chan_file.specs.Line.{other, line_form}
+use Rattle.chan_file.specs.Inner.Named.{HasNamed}
 use Rattle.chan_file.specs.Inner.Number.{number_of, number_in, held_in, word_in}
 use Rattle.chan_file.specs.OutcomeText.{word_text}
+use Rattle.chan_file.proofs.Names.{last_some}
 
 -- ---- one digit more
 
@@ -147,9 +152,25 @@ word_reads w text x e =
       ap (λ n. Number 0 n ∷ []) (sym same) ∙ sym (shape_of-Bits x),
     )
 
-pub word_said : (c w : ℕ) (t : Ty) (line : List ℕ) (x : Word) → t ≡ ty.Bits w → Some x ≡ word_in w line → SaysWord c t line (AWord c x)
+word_said : (c w : ℕ) (t : Ty) (line : List ℕ) (x : Word) → t ≡ ty.Bits w → Some x ≡ word_in w line → SaysWord c t line (AWord c x)
 word_said c w t line x is e =
     (refl, (value.Bits x, subst (λ u. Reads line u (value.Bits x)) (sym is) (word_reads w line x e), sym (flat_of-Bits x)))
+
+-- a line with it is neither blank nor a channel's name
+number_other : (ds : List ℕ) → line_form (48 ∷ 120 ∷ ds) ≡ other
+number_other ds = refl
+
+word_other : (w : ℕ) (line : List ℕ) (x : Word) → Some x ≡ word_in w line → line_form line ≡ other
+word_other w line x e =
+    let is = word_in-is w line x (number_in line) refl e in
+    sym (ap line_form is.text_is.spelled) ∙ number_other (drop 2 line)
+
+-- it is a word of the channel that was named last
+pub number_line_says : (net : Net) (before line : List ℕ) (named : Named) (c w : ℕ) (chan : Chan) (x : Word) → HasNamed (length net.chans) before named → named.last ≡ Some c
+    → slice_get net.chans c ≡ Some chan → chan.ty ≡ ty.Bits w → Some x ≡ word_in w line → SaysLine net before line (AWord c x)
+number_line_says net before line named c w chan x held last there is e =
+    let list = last_some before c (sym held.last ∙ last) in
+    word_line c list.0 chan (AWord c x) (word_other w line x e) list.1 there (word_said c w chan.ty line x is e)
 
 -- ---- what is written
 

@@ -1,5 +1,5 @@
 -- The table of the values of bytes as digits.
-use Rattle.std.proofs.Common.{◌≡◌, ℕ, zero, suc, ◌-◌, ◌<◌, Bool, true, ◌&&◌, T, eqb, get_or, ◌⊎◌, inl, inr, arith, eq-zero-or-pos, eqb→eq}
+use Rattle.std.proofs.Common.{◌≡◌, ℕ, zero, suc, ◌-◌, ◌<◌, Bool, true, ◌&&◌, T, eqb, get_or, inl, inr, arith, eq-zero-or-pos, eqb→eq}
 use Rattle.std.specs.Char.{digit_value}
 use Rattle.chan_file.specs.declared.number.TheConstants.{VALUES}
 use lib.Ieee.Fits.{and_l, and_r}

@@ -1,10 +1,10 @@
 //! The words of a network's inputs, from a channel file.
 
-ghost use Rattle.std.specs.Prelude.{◌≡◌, ◌<◌, ◌^◌, [], Ok, length, replicate, IfOk, MatchResult};
+ghost use Rattle.std.specs.Prelude.{◌≡◌, ◌<◌, ◌^◌, [], ◌∷◌, ◌++◌, Ok, length, replicate, get_or, set, IfOk, OnOk, MatchResult};
 ghost use Rattle.net_core.specs.WellFormed.{IsNet, IsInputs};
 ghost use Rattle.chan_file.specs.ChannelFile.{Reads, IsRefusal};
 
-use crate::line::{Said, read_line};
+use crate::line::{Said, number_line, read_line};
 use crate::named::{Named, input_numbers};
 use crate::refusal::InputError;
 use base::texts::Lines;
@@ -25,10 +25,14 @@ pub fn read_inputs(alloc: Global, text: &[u8], net: &Net) -> Result<Inputs, Inpu
     let mut words = no_words(alloc, net.chans.len())?;
     let mut lines = Lines::new(text);
     'lines: while let Some(line) = lines.next() {
+        if let Some(said) = number_line(net, &named, line.bytes) {
+            push_word(&mut words, said.chan, said.word)?;
+            continue;
+        }
         match read_line(alloc, net, &numbers, &named, line.bytes)? {
             Said::Nothing => {}
             Said::Channel(chan) => named.name(chan),
-            Said::Word(chan, word) => words[chan as usize].push(word)?,
+            Said::Word(chan, word) => push_word(&mut words, chan, word)?,
             Said::Fault(cause) => return Err(InputError::Input(cause, line.at as u32)),
         }
     }
@@ -46,4 +50,14 @@ fn no_words(alloc: Global, count: usize) -> Result<Vec<Seq<Bits>>, AllocError>
         words.push(Seq::new(alloc))?;
     }
     Ok(words)
+}
+
+/// Appends a word to those of a channel.
+#[inline(always)]
+fn push_word(words: &mut Vec<Seq<Bits>>, chan: u32, word: Bits) -> Result<(), AllocError>
+    requires { chan < length words.old.items }
+    ensures { OnOk result (words.new.items ≡ set words.old.items chan (get_or words.old.items chan [] ++ word ∷ [])) }
+{
+    words[chan as usize].push(word)?;
+    Ok(())
 }

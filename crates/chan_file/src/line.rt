@@ -1,6 +1,6 @@
 //! What one line of a channel file says.
 
-ghost use Rattle.std.specs.Prelude.{◌≡◌, ◌<◌, ◌≤◌, ◌^◌, ℕ, List, codes, bytes_eq, take, length, IsTrue, IfOk};
+ghost use Rattle.std.specs.Prelude.{◌≡◌, ◌<◌, ◌≤◌, ◌^◌, ℕ, List, codes, bytes_eq, take, length, IsTrue, IfOk, IfSome};
 ghost use Rattle.std.specs.List.{list_all};
 ghost use Rattle.net_core.specs.WellFormed.{IsNet};
 ghost use Rattle.xb_value.specs.Width.{width_of};
@@ -9,6 +9,7 @@ ghost use Rattle.chan_file.specs.Line.{other, line_form, says_nothing, is_name_b
 ghost use Rattle.chan_file.specs.Inner.Named.{KnowsInputs, HasNamed};
 ghost use Rattle.chan_file.specs.Inner.Form.{form_of};
 ghost use Rattle.net_core.specs.declared.net.Net.{Net};
+ghost use Rattle.chan_file.specs.declared.line.Said.TheVariants.{Word};
 
 use crate::named::{Named, Numbers, number_of};
 use crate::number::word_in;
@@ -30,6 +31,30 @@ pub enum Said {
     Word(u32, Bits),
     /// It is at fault.
     Fault(Cause),
+}
+
+/// A word of a channel.
+#[derive(Clone, Copy)]
+pub struct ChannelWord {
+    pub chan: u32,
+    pub word: Bits,
+}
+
+/// The word that a line says, if it is a number and the channel named last is of a number type. `read_line` says what any
+/// other line does. It takes no memory, and hands the word on as it is: most lines of a long file are such.
+pub fn number_line(net: &Net, named: &Named, line: &[u8]) -> Option<ChannelWord>
+    requires { IsNet net.now }
+    ensures { IfSome result (λ said. (before : List ℕ) → HasNamed (length net.now.chans) before named.now → SaysLine net.now before line.now (Word said.chan said.word)) }
+{
+    let chan = named.last?;
+    let of = at(net.chans.as_slice(), chan as usize)?;
+    match of.ty {
+        Ty::Bits(width) => {
+            let word = word_in(width, line)?;
+            Some(ChannelWord { chan, word })
+        }
+        _ => None,
+    }
 }
 
 /// What a line says, where these channels were named before it.
@@ -80,24 +105,8 @@ fn said_of_word(alloc: Global, net: &Net, named: &Named, line: &[u8]) -> Result<
     }
 }
 
-/// What a line says as a word of a channel of the type. A number of a number type takes no memory.
+/// What a line says as a word of a channel of the type.
 fn read_word(alloc: Global, ty: &Ty, chan: u32, line: &[u8]) -> Result<Said, AllocError>
-    requires short { length line.now < 2 ^ 32 }
-    requires some_width { 1 ≤ width_of ty.now }
-    requires most_width { width_of ty.now ≤ 128 }
-    ensures { IfOk result (SaysWord chan ty.now line.now) }
-{
-    match ty {
-        Ty::Bits(width) => match word_in(*width, line) {
-            Some(word) => Ok(Said::Word(chan, word)),
-            None => read_value_word(alloc, ty, chan, line),
-        },
-        _ => read_value_word(alloc, ty, chan, line),
-    }
-}
-
-/// The same of a line of any form, by way of the value that it spells.
-fn read_value_word(alloc: Global, ty: &Ty, chan: u32, line: &[u8]) -> Result<Said, AllocError>
     requires short { length line.now < 2 ^ 32 }
     requires some_width { 1 ≤ width_of ty.now }
     requires most_width { width_of ty.now ≤ 128 }

@@ -1,8 +1,12 @@
-use Rattle.std.proofs.Common.{◌≡◌, ◌<◌, ◌∷◌, ◌++◌, [], length, set, replicate, ap, sym, subst, ◌∙◌, arith, Ok}
-use Rattle.std.proofs.lemmas.List.{get_or_read}
+use Rattle.std.proofs.Common.{◌≡◌, ℕ, ◌<◌, List, [], length, replicate, ap, sym, subst, ◌∙◌, arith, Ok}
+use Rattle.xb_bits.specs.Word.{Word}
+use Rattle.net_core.specs.declared.net.Net.{Net}
+use Rattle.net_core.specs.WellFormed.{IsNet}
 use Rattle.base.specs.Texts.Lines.{lines_of, positioned}
 use Rattle.base.proofs.Lemmas.Texts.Lines.{lines-within}
 use Rattle.chan_file.specs.ChannelFile.{SaysLine, Reads}
+use Rattle.chan_file.specs.declared.line.Said.TheVariants.{Word as AWord}
+use Rattle.chan_file.specs.declared.named.Named.{Named}
 use Rattle.chan_file.specs.Inner.Named.{HasNamed}
 use Rattle.chan_file.proofs.Lemmas.Reading.{inputs_fit}
 use Rattle.chan_file.proofs.Lines.{IsSoFar, so_far_none, so_far_nothing, so_far_channel, so_far_word, reads_fault, reads_all, channel_within, word_within, lists_length}
@@ -40,27 +44,45 @@ lines-preserved-in-Channel c =
           (c.name.ensures (length c.args.net.now.chans) s.before s.held);
     }
 
-pub index_mut-requires : goal.index_mut-requires
-index_mut-requires c =
-    let s = c.lines.invariant.so_far in
-    let says = subst (λ said. SaysLine c.args.net.now s.before c.in-Some.line.bytes.now said) c.in-Word.is (c.in_ok-read_line.ensures s.before s.held) in
-    let within = word_within c.args.net.now s.before c.in-Some.line.bytes.now c.in-Word.chan c.in-Word.word c.requires.net s.inputs says in
-    let lists : length c.lines.words.items ≡ length c.args.net.now.chans = ap length s.words_are ∙ lists_length c.args.net.now s.done in
-    let ok = c.lines.words.ok in
+-- a word that a line says is a word of a channel that is there
+has_room : (net : Net) (all rest : List (ℕ × List ℕ)) (end : ℕ) (named : Named) (words : List (List Word)) (line : List ℕ) (c : ℕ) (w : Word)
+    → IsNet net → (s : IsSoFar net all rest end named words) → SaysLine net s.before line (AWord c w) → c < length words
+has_room net all rest end named words line c w fine s says =
+    let within = word_within net s.before line c w fine s.inputs says in
+    let lists : length words ≡ length net.chans = ap length s.words_are ∙ lists_length net s.done in
     omega arith
+
+pub push_word-requires : goal.push_word-requires
+push_word-requires c =
+    let s = c.lines.invariant.so_far in
+    has_room c.args.net.now _ c.lines.lines (length c.args.text.now) c.lines.named c.lines.words.items c.in-Some.line.bytes.now
+    c.in-Some-number_line.said.chan c.in-Some-number_line.said.word c.requires.net s (c.in-Some-number_line.ensures s.before s.held)
+
+pub lines-preserved-in-Some-number_line : goal.lines-preserved-in-Some-number_line
+lines-preserved-in-Some-number_line c =
+    let s = c.lines.invariant.so_far in
+    let says = c.in-Some-number_line.ensures s.before s.held in
+    let within = word_within c.args.net.now s.before c.in-Some.line.bytes.now c.in-Some-number_line.said.chan c.in-Some-number_line.said.word c.requires.net s.inputs says in
+    record {
+      so_far = so_far_word c.args.net.now _ c.lines.lines c.next.new.self (length c.args.text.now) c.in-Some.line.at c.in-Some.line.bytes.now c.in-Some-number_line.said.chan c.in-Some-number_line.said.word c.lines.named c.lines.words.items _ s c.in-Some.ensures says within
+          c.in_ok-push_word.ensures;
+    }
+
+pub push_word-requires-in-Word : goal.push_word-requires-in-Word
+push_word-requires-in-Word c =
+    let s = c.lines.invariant.so_far in
+    has_room c.args.net.now _ c.lines.lines (length c.args.text.now) c.lines.named c.lines.words.items c.in-Some.line.bytes.now
+    c.in-Word.chan c.in-Word.word c.requires.net s
+    (subst (λ said. SaysLine c.args.net.now s.before c.in-Some.line.bytes.now said) c.in-Word.is (c.in_ok-read_line.ensures s.before s.held))
 
 pub lines-preserved : goal.lines-preserved
 lines-preserved c =
     let s = c.lines.invariant.so_far in
     let says = subst (λ said. SaysLine c.args.net.now s.before c.in-Some.line.bytes.now said) c.in-Word.is (c.in_ok-read_line.ensures s.before s.held) in
     let within = word_within c.args.net.now s.before c.in-Some.line.bytes.now c.in-Word.chan c.in-Word.word c.requires.net s.inputs says in
-    let lists : length c.lines.words.items ≡ length c.args.net.now.chans = ap length s.words_are ∙ lists_length c.args.net.now s.done in
-    let room : c.in-Word.chan < length c.lines.words.items = omega arith in
-    let old = get_or_read c.lines.words.items c.in-Word.chan c.index_mut.result.now room c.index_mut.ensures.value [] in
-    let pushed = c.in_ok-push-in-Word.ensures.ok ∙ ap (λ ws. ws ++ c.in-Word.word ∷ []) old in
     record {
       so_far = so_far_word c.args.net.now _ c.lines.lines c.next.new.self (length c.args.text.now) c.in-Some.line.at c.in-Some.line.bytes.now c.in-Word.chan c.in-Word.word c.lines.named c.lines.words.items _ s c.in-Some.ensures says within
-          (ap (set c.lines.words.items c.in-Word.chan) pushed);
+          c.in_ok-push_word-in-Word.ensures;
     }
 
 pub returns-in-Fault-clause-reads : goal.returns-in-Fault-clause-reads

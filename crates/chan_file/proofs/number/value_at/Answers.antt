@@ -1,4 +1,3 @@
-use Rattle.std.proofs.Common.{◌∙◌, arith}
 use Rattle.chan_file.proofs.Values.{VALUES_at}
 use Rattle.chan_file.proofs.number.value_at.Goals as goal
 
