@@ -8,3 +8,5 @@ pub mod Keeps
 pub mod Options
 -- a step of the machine in the code
 pub mod Steps
+-- what the recursion finds
+pub mod Direct

@@ -1,11 +1,13 @@
 //! The values of expressions of a checked text.
 //!
-//! A machine with stacks of its own finds them: neither calls, one in another, nor expressions take room of the processor's
-//! stack. What it holds grows with the expressions and calls that are open at once.
+//! A recursion finds them, as deep as the processor's stack surely goes; below that a machine with stacks of its own, so that no text
+//! decides how deep the recursion goes. What they hold grows with the expressions and calls that are open at once.
 mod control;
+mod direct;
 mod machine;
 mod operation;
 mod plan;
+mod stepping;
 mod task;
 mod value;
 

@@ -4,6 +4,7 @@ mod values;
 mod words;
 
 pub use shapes::{alike, take_apart, take_first};
+pub(crate) use values::place_of;
 pub use values::{
     binary_value, cast_value, condition, element, indexed, part_value, slice_value, unary_value,
     updated, value_at, word_of,

@@ -30,7 +30,7 @@ functions_below (g ∷ gs) k before f vs h =
     let other : (f == k) ≡ false = grind (arith, nat_tests) in
     functions_below gs (suc k) (and_function k g before) f vs (omega (arith, h)) ∙ unlike k f g before vs other
 
-function_at : (fs : List Function) (k j f : ℕ) (before : Functions) (vs : List Value) (g : Function) → f ≡ k + j → slice_get fs j ≡ Some g
+pub function_at : (fs : List Function) (k j f : ℕ) (before : Functions) (vs : List Value) (g : Function) → f ≡ k + j → slice_get fs j ≡ Some g
     → functions_from k fs before f vs ≡ (if length vs == g.arity then core_value g.body (functions_from k (take j fs) before) vs else None)
 function_at [] k zero f before vs g at h = absurd (cc)
 function_at [] k (suc j) f before vs g at h = absurd (cc)
@@ -42,7 +42,7 @@ function_at (x ∷ xs) k zero f before vs g at h =
 function_at (x ∷ xs) k (suc j) f before vs g at h =
     function_at xs (suc k) j f (and_function k x before) vs g (omega (arith, at)) h
 
-function_none : (fs : List Function) (k j f : ℕ) (before : Functions) (vs : List Value) → f ≡ k + j → slice_get fs j ≡ None → functions_from k fs before f vs ≡ before f vs
+pub function_none : (fs : List Function) (k j f : ℕ) (before : Functions) (vs : List Value) → f ≡ k + j → slice_get fs j ≡ None → functions_from k fs before f vs ≡ before f vs
 function_none [] k j f before vs at h = refl
 function_none (x ∷ xs) k zero f before vs at h = absurd (cc)
 function_none (x ∷ xs) k (suc j) f before vs at h =

@@ -54,7 +54,7 @@ three_goes l r (Some z) p q f vs k = two_goes l r p q (f z) vs k
 
 -- ---- several
 
-all_some_more : (v : Value) (os : List (Option Value)) → all_some (Some v ∷ os) ≡ and_then (all_some os) (λ vs. Some (v ∷ vs))
+pub all_some_more : (v : Value) (os : List (Option Value)) → all_some (Some v ∷ os) ≡ and_then (all_some os) (λ vs. Some (v ∷ vs))
 all_some_more v os = by (all_some os) refl
   where
     by : (q : Option (List Value)) → all_some os ≡ q → all_some (Some v ∷ os) ≡ and_then q (λ vs. Some (v ∷ vs))

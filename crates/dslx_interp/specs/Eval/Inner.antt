@@ -5,3 +5,5 @@ pub mod Machine
 pub mod Operations
 -- what is to be done, without references
 pub mod Tasks
+-- the value of an expression by those of its parts
+pub mod Direct

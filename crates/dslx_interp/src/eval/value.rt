@@ -1,15 +1,17 @@
-ghost use Rattle.std.specs.Prelude.{◌≡◌, IfOk, Some, slice_get};
+ghost use Rattle.std.specs.Prelude.{◌≡◌, IfOk, Some};
 ghost use Rattle.dslx_meaning.specs.Lists.{and_then};
 ghost use Rattle.dslx_interp.specs.Eval.Found.{plain_found};
 ghost use Rattle.dslx_core.specs.CoreValues.{core_value};
 ghost use Rattle.dslx_core.specs.Designs.{functions_from, no_function};
 
-use crate::eval::machine::Machine;
-use crate::eval::task::Task;
-use base::stacks::Stack;
+use crate::eval::direct::value_in;
 use dslx_core::{CoreExpr, Function};
 use std::alloc::{AllocError, Global};
 use xb_value::Value;
+
+/// How many expressions and calls may stand open one in another before the machine takes over. A level takes less than a kilobyte of the
+/// processor's stack.
+const MOST_LEVELS: u32 = 64;
 
 /// A value that was found, and what is bound there.
 #[derive(Drop)]
@@ -21,48 +23,18 @@ pub struct Found {
 /// The value of an expression over these bound values, which are handed back with it, unless it has none. `functions` are those that
 /// it may call, each of which calls only those before it.
 ///
-/// It takes a step for each expression that it meets, in each turn of a loop anew, and memory for what is open at once. Past
-/// 2^64 - 1 steps, which no checked text needs, it gives up as for want of memory.
-pub fn value_of<'a>(
+/// Its cost is that of the expressions that it meets, in each turn of a loop anew: what is only read isn't copied.
+pub fn value_of(
     alloc: Global,
-    functions: &'a [Function],
-    expr: &'a CoreExpr,
+    functions: &[Function],
+    expr: &CoreExpr,
     bound: Vec<Value>,
 ) -> Result<Option<Found>, AllocError>
     ensures { IfOk result (λ o. plain_found o ≡ and_then (core_value expr.now (functions_from 0 functions.now no_function) bound.items) (λ v. Some (v, bound.items))) }
 {
-    let mut machine = Machine {
-        functions,
-        tasks: Stack::new(alloc),
-        values: Stack::new(alloc),
-        bound,
-        before: functions.len() as u64,
-    };
-    machine.tasks.push(Task::Eval(expr))?;
-    'steps: for _ in 0..u64::MAX {
-        match machine.tasks.pop() {
-            Some(task) => if !machine.step(alloc, task)? {
-                return Ok(None);
-            },
-            None => return Ok(found_by(machine)),
-        }
-    }
-    Err(AllocError)
-}
-
-/// The value on the top of a machine's stack, with what is bound.
-fn found_by(machine: Machine) -> Option<Found>
-    ensures { plain_found result ≡ and_then (slice_get machine.entry.values 0) (λ v. Some (v, machine.entry.bound.items)) }
-{
-    let Machine {
-        functions: _,
-        tasks: _,
-        mut values,
-        bound,
-        before: _,
-    } = machine;
-    match values.pop() {
-        Some(value) => Some(Found { value, bound }),
-        None => None,
+    let mut bound = bound;
+    match value_in(alloc, functions, MOST_LEVELS, expr, &mut bound)? {
+        Some(value) => Ok(Some(Found { value, bound })),
+        None => Ok(None),
     }
 }

@@ -138,7 +138,7 @@ pub fn indexed(
 {
     match (array, word_of(place)) {
         (Some(Value::Array(elements)), Some(word)) => {
-            value_at(alloc, elements.as_slice(), index_of(word, elements.len()))
+            value_at(alloc, elements.as_slice(), place_of(word, elements.len()))
         }
         _ => Ok(None),
     }
@@ -161,7 +161,7 @@ pub fn updated(array: Option<Value>, place: &Option<Value>, new: Option<Value>) 
 }
 
 /// The index that a word is, or the last one of so many where it is past them.
-fn index_of(word: Bits, count: usize) -> u64
+pub(crate) fn place_of(word: Bits, count: usize) -> u64
     ensures { result ≡ min word.value (pred count) }
 {
     let last = count.saturating_sub(1);

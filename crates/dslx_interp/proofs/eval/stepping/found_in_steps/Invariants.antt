@@ -4,7 +4,7 @@ use Rattle.dslx_core.specs.CoreValues.{core_value}
 use Rattle.dslx_core.specs.Designs.{functions_from, no_function}
 use Rattle.dslx_interp.specs.Eval.Inner.Machine.{shown}
 use Rattle.dslx_interp.proofs.OnEval.Keeps.{answer_of}
-use Rattle.dslx_interp.proofs.eval.value.value_of.Given as goal
+use Rattle.dslx_interp.proofs.eval.stepping.found_in_steps.Given as goal
 
 -- what comes of the machine is the value, with what was bound at first
 abbrev pub invariant-steps : goal.invariant-steps

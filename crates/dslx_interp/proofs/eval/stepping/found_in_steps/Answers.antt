@@ -2,7 +2,7 @@ use Rattle.std.proofs.Common.{◌≡◌, List, Some, sym, ap, ◌∙◌}
 use Rattle.std.specs.Prelude.{slice_get}
 use Rattle.dslx_interp.specs.declared.eval.task.Task.{Task}
 use Rattle.dslx_interp.proofs.OnEval.Steps.{stuck, done}
-use Rattle.dslx_interp.proofs.eval.value.value_of.Goals as goal
+use Rattle.dslx_interp.proofs.eval.stepping.found_in_steps.Goals as goal
 
 pub returns-then-not-branch : goal.returns-then-not-branch
 returns-then-not-branch c =
