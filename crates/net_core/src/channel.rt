@@ -15,8 +15,8 @@ pub(crate) struct Channel {
     received: u64,
 }
 
-/// The first `count` words.
-fn front(mut words: Seq<Bits>, count: u64) -> Seq<Bits>
+/// The first `count` words, in the memory of all.
+pub(crate) fn front(mut words: Seq<Bits>, count: u64) -> Seq<Bits>
     ensures { result ≡ take count words }
 {
     while words.len() as u64 > count {

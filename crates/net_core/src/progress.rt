@@ -1,5 +1,6 @@
 use crate::activation::Activation;
 use crate::body::Body;
+use crate::channel::front;
 use crate::event::Event;
 use crate::net::{ProcHead, Site};
 use crate::outcome::{ProcEnd, Stall};
@@ -107,13 +108,14 @@ impl Progress {
         self.done = site + 1;
     }
 
-    /// The activation ends with a state, and the next one begins.
+    /// The activation ends with a state, and the next one begins. The memory of its words serves those of the next one.
     pub(crate) fn end(&mut self, alloc: Global, state: Value)
         requires { self.old.ends + 1 < 2 ^ 32 }
         ensures { self.new ≡ record self.old { state = state; got = []; done = 0; ends = suc self.old.ends } }
     {
         self.state = state;
-        self.got = Seq::new(alloc);
+        let words = std::mem::replace(&mut self.got, Seq::new(alloc));
+        self.got = front(words, 0);
         self.done = 0;
         self.ends += 1;
     }
