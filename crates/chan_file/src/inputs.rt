@@ -52,7 +52,7 @@ fn no_words(alloc: Global, count: usize) -> Result<Vec<Seq<Bits>>, AllocError>
     Ok(words)
 }
 
-/// Appends a word to those of a channel.
+/// Appends a word to those of a channel. Where it is called the word need not lie in memory first.
 #[inline(always)]
 fn push_word(words: &mut Vec<Seq<Bits>>, chan: u32, word: Bits) -> Result<(), AllocError>
     requires { chan < length words.old.items }

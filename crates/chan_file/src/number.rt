@@ -1,5 +1,5 @@
-//! Words of a number type as they are read and written: from a line's bytes in one loop, and to a text in one append.
-//! No word takes memory of its own.
+//! Words of a number type as texts, without tokens and values between: read in one loop over the digits, and written by one
+//! append. Nothing here allocates but the text that grows.
 
 ghost use Rattle.std.specs.Prelude.{◌≡◌, ◌<◌, ◌≤◌, ◌+◌, ◌-◌, ◌/◌, ◌^◌, ◌∷◌, ◌++◌, Some, OnOk, codes, bytes_eq, string_bytes, take, drop, length, IsTrue, IsAscii};
 ghost use Rattle.std.specs.Char.{digit_char, digit_value};
@@ -9,7 +9,7 @@ ghost use Rattle.chan_file.specs.Inner.Number.{number_of, number_in, held_in, wo
 use std::alloc::AllocError;
 use xb_bits::Bits;
 
-/// The word of `width` bits that a text is, if it is `0x` and digits of one. It allocates nothing.
+/// The word of `width` bits that a text is, if it is `0x` and digits of one.
 pub fn word_in(width: u64, text: &[u8]) -> Option<Bits>
     requires some_width { 1 ≤ width }
     requires most_width { width ≤ 128 }
@@ -69,15 +69,15 @@ fn number_of(digits: &[u8]) -> Option<u128>
     Some(number)
 }
 
-/// The value of a digit or a letter, and 36 for any other byte. It is looked up, since the digits of numbers come in no
-/// order that tests could foresee.
+/// The value of a digit or a letter, and 36 for any other byte. It is looked up, since a processor can't foresee how tests of
+/// a number's digits end.
 fn value_at(byte: u8) -> u8
     ensures { result ≡ digit_value byte }
 {
     VALUES[byte as usize]
 }
 
-/// The values of all bytes.
+/// The value of each byte.
 static VALUES: [u8; 256] = [
     36, 36, 36, 36, 36, 36, 36, 36, 36, 36, 36, 36, 36, 36, 36, 36, 36, 36, 36, 36, 36, 36, 36, 36,
     36, 36, 36, 36, 36, 36, 36, 36, 36, 36, 36, 36, 36, 36, 36, 36, 36, 36, 36, 36, 36, 36, 36, 36,
@@ -92,7 +92,7 @@ static VALUES: [u8; 256] = [
     36, 36, 36, 36, 36, 36, 36, 36, 36, 36, 36, 36, 36, 36,
 ];
 
-/// Appends a space, `0x` and as many digits as the word's width needs. It allocates nothing but what the text grows by.
+/// Appends a space, `0x` and as many digits as the word's width needs.
 pub fn push_number(text: &mut String, word: Bits) -> Result<(), AllocError>
     ensures text { OnOk result (string_bytes text.new ≡ string_bytes text.old ++ (32 ∷ codes "0x" ++ hex_digits ((word.width + 3) / 4) word.value)) }
     ensures in_range { word.value < 2 ^ word.width }
@@ -130,7 +130,7 @@ fn digit_char(digit: u8) -> u8
     }
 }
 
-/// Appends bytes that are ASCII.
+/// Appends bytes that are ASCII. They are UTF-8 then, so no byte is tested again.
 fn push_ascii(text: &mut String, bytes: &[u8]) -> Result<(), AllocError>
     requires { IsAscii bytes.now }
     ensures { OnOk result (string_bytes text.new ≡ string_bytes text.old ++ bytes.now) }
