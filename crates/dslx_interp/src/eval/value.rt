@@ -9,7 +9,7 @@ use dslx_core::{CoreExpr, Function};
 use std::alloc::{AllocError, Global};
 use xb_value::Value;
 
-/// How many expressions and calls may stand open one in another before the machine takes over. A level takes less than a kilobyte of the
+/// How many expressions and calls may stand open one in another before the machine takes over. A level takes one to two kilobytes of the
 /// processor's stack.
 const MOST_LEVELS: u32 = 64;
 
