@@ -16,7 +16,7 @@ ghost use Rattle.dslx_interp.specs.Eval.Inner.Direct.{calls_of, arm_den, layer, 
 use crate::eval::stepping::machine_value;
 use crate::operate::{
     binary_value, cast_value, condition, element, indexed, part_value, place_of, slice_value,
-    take_apart, take_first, unary_value, updated, value_at, word_of,
+    take_first, take_whole, unary_value, updated, value_at, word_of,
 };
 use dslx_core::{Arm, CoreBinary, CoreExpr, CoreUnary, Function, Shape, Sign};
 use std::alloc::{AllocError, Global};
@@ -644,27 +644,6 @@ fn function_in(
         &function.body,
         &mut bound,
     )
-}
-
-/// Binds the parts of a value behind those that are bound, and says whether it fits.
-fn take_whole(
-    alloc: Global,
-    shape: &Shape,
-    value: Value,
-    bound: &mut Vec<Value>,
-) -> Result<bool, AllocError>
-    ensures fits { IfOk result (λ fits. MatchBool fits
-        (taken_apart shape.now value bound.old.items ≡ Some bound.new.items)
-        (taken_apart shape.now value bound.old.items ≡ None)) }
-    ensures front { OnOk result (take (length bound.old.items) bound.new.items ≡ bound.old.items) }
-{
-    match shape {
-        Shape::Bound => {
-            bound.push(value)?;
-            Ok(true)
-        }
-        _ => take_apart(alloc, shape, &value, bound),
-    }
 }
 
 /// The value of an expression that is there already: a literal, or what is bound.

@@ -11,7 +11,7 @@ ghost use Rattle.dslx_interp.specs.Network.Inner.Walking.{SendsAWord, Goes, Goes
 
 use crate::eval::value_of;
 use crate::network::word::{word_at, word_value};
-use crate::operate::{condition, take_apart};
+use crate::operate::{condition, take_whole};
 use dslx_core::{CoreExpr, Function, Receive, Send, Shape, Step};
 use net_core::{Activation, Event};
 use std::alloc::{AllocError, Global};
@@ -150,7 +150,7 @@ impl Walk {
         ensures binds { IfOk result (λ ended. BindsOrEnds shape.now value self.old self.new ended) }
         ensures waits { IfOk result (WaitsIf self.old self.new) }
     {
-        if take_apart(alloc, shape, &value, &mut self.bound)? {
+        if take_whole(alloc, shape, value, &mut self.bound)? {
             Ok(None)
         } else {
             Ok(Some(ended(alloc)))

@@ -64,6 +64,27 @@ pub fn take_apart(
     }
 }
 
+/// The same as [`take_apart`] of a value that nobody else needs: it isn't copied where it is bound as it is.
+pub(crate) fn take_whole(
+    alloc: Global,
+    shape: &Shape,
+    value: Value,
+    bound: &mut Vec<Value>,
+) -> Result<bool, AllocError>
+    ensures fits { IfOk result (λ fits. MatchBool fits
+        (taken_apart shape.now value bound.old.items ≡ Some bound.new.items)
+        (taken_apart shape.now value bound.old.items ≡ None)) }
+    ensures front { OnOk result (take (length bound.old.items) bound.new.items ≡ bound.old.items) }
+{
+    match shape {
+        Shape::Bound => {
+            bound.push(value)?;
+            Ok(true)
+        }
+        _ => take_apart(alloc, shape, &value, bound),
+    }
+}
+
 /// The same of each value by its own shape.
 #[cycle(apart)]
 fn take_each(
