@@ -82,7 +82,7 @@ impl Body for DslxBody<'_> {
                 }
             }
         }
-        walk.end(alloc, functions, &self.instance.next)
+        walk.end(alloc, functions, &self.instance.next, kept)
     }
 
     ghost begins = { λ body kept state got done nothing. keeps_begin body.design.now body.number body.instance.now kept state got done nothing };

@@ -91,17 +91,24 @@ impl Walk {
         }
     }
 
-    /// The end of the activation, with the value of the next state.
+    /// The end of the activation, with the value of the next state. Nothing is kept of it but the memory of its values.
     pub(crate) fn end(
         self,
         alloc: Global,
         functions: &[Function],
         next: &CoreExpr,
+        kept: &mut Activation,
     ) -> Result<Event, AllocError>
-        ensures { IfOk result (λ event. event ≡ End (unwrap_or (core_value next.now (functions_from 0 functions.now no_function) self.bound.items) token)) }
+        requires { IsNothing kept.old }
+        ensures event { IfOk result (λ event. event ≡ End (unwrap_or (core_value next.now (functions_from 0 functions.now no_function) self.bound.items) token)) }
+        ensures nothing { IsNothing kept.new }
     {
         match value_of(alloc, functions, next, self.bound)? {
-            Some(found) => Ok(Event::End(found.value)),
+            Some(found) => {
+                kept.values = found.bound;
+                kept.values.clear();
+                Ok(Event::End(found.value))
+            }
             None => Ok(ended(alloc)),
         }
     }

@@ -60,10 +60,10 @@ returns-clause-event c =
     h ∙ sym (at_end calls next walk.bound.items (drop walk.received c.args.got.now) (c.args.done - walk.site) walk.site)
     ∙ ap (λ ss. event_here (do_steps calls ss next) c.args.got.now c.args.done walk) (sym none)
     ∙ next_now body.design.now body.number body.instance.now calls c.args.state.now c.args.got.now c.args.done walk (drop c.steps.number steps) c.steps.invariant.next)
-    c.end.ensures
+    c.end.ensures.event
 
 pub returns-clause-keeps : goal.returns-clause-keeps
-returns-clause-keeps c = keeps_begin c.args.self.now.design.now c.args.self.now.number c.args.self.now.instance.now _ _ _ _ c.steps.invariant.nothing
+returns-clause-keeps c = keeps_begin c.args.self.now.design.now c.args.self.now.number c.args.self.now.instance.now _ _ _ _ c.end.ensures.nothing
 
 pub steps-preserved : goal.steps-preserved
 steps-preserved c =
