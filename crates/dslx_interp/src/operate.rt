@@ -3,7 +3,7 @@ mod shapes;
 mod values;
 mod words;
 
-pub(crate) use shapes::take_whole;
+pub(crate) use shapes::{take_pair, take_whole};
 pub use shapes::{alike, take_apart, take_first};
 pub(crate) use values::place_of;
 pub use values::{

@@ -11,7 +11,7 @@ ghost use Rattle.dslx_interp.specs.Network.Inner.Walking.{SendsAWord, Goes, Goes
 
 use crate::eval::value_of;
 use crate::network::word::{word_at, word_value};
-use crate::operate::{condition, take_whole};
+use crate::operate::{condition, take_pair, take_whole};
 use dslx_core::{CoreExpr, Function, Receive, Send, Shape, Step};
 use net_core::{Activation, Event};
 use std::alloc::{AllocError, Global};
@@ -164,6 +164,23 @@ impl Walk {
         }
     }
 
+    /// Takes a token and a value apart. The activation ends where they don't fit.
+    fn take_received(
+        &mut self,
+        alloc: Global,
+        shape: &Shape,
+        value: Value,
+    ) -> Result<Option<Event>, AllocError>
+        ensures binds { IfOk result (λ ended. BindsOrEnds shape.now (with_token value) self.old self.new ended) }
+        ensures waits { IfOk result (WaitsIf self.old self.new) }
+    {
+        if take_pair(alloc, shape, token(alloc), value, &mut self.bound)? {
+            Ok(None)
+        } else {
+            Ok(Some(ended(alloc)))
+        }
+    }
+
     /// Binds the value of an expression.
     fn bind(
         &mut self,
@@ -231,10 +248,10 @@ impl Walk {
         let Some(word) = word_at(got, self.received) else {
             return Ok(Some(ended(alloc)));
         };
-        let value = with_token(alloc, word_value(alloc, &receive.word, word)?)?;
+        let value = word_value(alloc, &receive.word, word)?;
         self.received += 1;
         self.site += 1;
-        self.take(alloc, &receive.shape, value)
+        self.take_received(alloc, &receive.shape, value)
     }
 
     /// Binds the value that stands for a word where a receive is off.
@@ -253,9 +270,8 @@ impl Walk {
         let Some(value) = self.value(alloc, functions, otherwise)? else {
             return Ok(Some(ended(alloc)));
         };
-        let pair = with_token(alloc, value)?;
         self.pass()?;
-        self.take(alloc, shape, pair)
+        self.take_received(alloc, shape, value)
     }
 
     /// Sends a word, or goes past the site.
@@ -418,16 +434,6 @@ fn token(alloc: Global) -> Value
     ensures { result ≡ token }
 {
     Value::Tuple(Seq::from_vec(Vec::new(alloc)))
-}
-
-/// A token and a value.
-fn with_token(alloc: Global, value: Value) -> Result<Value, AllocError>
-    ensures { IfOk result (λ pair. pair ≡ with_token value) }
-{
-    let mut parts = Vec::new(alloc);
-    parts.push(token(alloc))?;
-    parts.push(value)?;
-    Ok(Value::Tuple(Seq::from_vec(parts)))
 }
 
 /// The end of an activation in which a value is missing.

@@ -1,10 +1,12 @@
-ghost use Rattle.std.specs.Prelude.{◌≡◌, IfOk, OnOk, MatchBool, Some, None, map, take, length};
-ghost use Rattle.dslx_meaning.specs.Lists.{pairwise};
+ghost use Rattle.std.specs.Prelude.{◌≡◌, ◌∷◌, [], IfOk, OnOk, MatchBool, Some, None, map, take, length};
+ghost use Rattle.xb_value.specs.declared.value.Value.{Tuple as of_tuple};
+ghost use Rattle.dslx_meaning.specs.Lists.{and_then, pairwise};
 ghost use Rattle.dslx_core.specs.CoreValues.{is_like, taken_apart, apart_each, first_apart};
+ghost use Rattle.dslx_interp.specs.Eval.Inner.Direct.{two_apart};
 
 use dslx_core::Shape;
 use std::alloc::{AllocError, Global};
-use xb_value::Value;
+use xb_value::{Seq, Value};
 
 /// Whether the two are one value.
 #[cycle(alike)]
@@ -82,6 +84,92 @@ pub(crate) fn take_whole(
             Ok(true)
         }
         _ => take_apart(alloc, shape, &value, bound),
+    }
+}
+
+/// The same of a pair, which is made only where the shape takes it as it is.
+pub(crate) fn take_pair(
+    alloc: Global,
+    shape: &Shape,
+    first: Value,
+    second: Value,
+    bound: &mut Vec<Value>,
+) -> Result<bool, AllocError>
+    ensures { IfOk result (λ fits. MatchBool fits
+        (taken_apart shape.now (of_tuple (first ∷ second ∷ [])) bound.old.items ≡ Some bound.new.items)
+        (taken_apart shape.now (of_tuple (first ∷ second ∷ [])) bound.old.items ≡ None)) }
+{
+    match shape {
+        Shape::Tuple(shapes) => take_parts(alloc, shapes.as_slice(), first, second, bound),
+        _ => take_made(alloc, shape, first, second, bound),
+    }
+}
+
+/// The same of a pair that is made.
+fn take_made(
+    alloc: Global,
+    shape: &Shape,
+    first: Value,
+    second: Value,
+    bound: &mut Vec<Value>,
+) -> Result<bool, AllocError>
+    ensures { IfOk result (λ fits. MatchBool fits
+        (taken_apart shape.now (of_tuple (first ∷ second ∷ [])) bound.old.items ≡ Some bound.new.items)
+        (taken_apart shape.now (of_tuple (first ∷ second ∷ [])) bound.old.items ≡ None)) }
+{
+    let mut parts = Vec::new(alloc);
+    parts.push(first)?;
+    parts.push(second)?;
+    take_whole(alloc, shape, Value::Tuple(Seq::from_vec(parts)), bound)
+}
+
+/// The same of two values by these shapes, one each.
+fn take_parts(
+    alloc: Global,
+    shapes: &[Shape],
+    first: Value,
+    second: Value,
+    bound: &mut Vec<Value>,
+) -> Result<bool, AllocError>
+    ensures { IfOk result (λ fits. MatchBool fits
+        (apart_each (map taken_apart shapes.now) (first ∷ second ∷ []) bound.old.items ≡ Some bound.new.items)
+        (apart_each (map taken_apart shapes.now) (first ∷ second ∷ []) bound.old.items ≡ None)) }
+{
+    take_two(alloc, shapes, first, second, bound)
+}
+
+fn take_two(
+    alloc: Global,
+    shapes: &[Shape],
+    first: Value,
+    second: Value,
+    bound: &mut Vec<Value>,
+) -> Result<bool, AllocError>
+    ensures { IfOk result (λ fits. MatchBool fits
+        (two_apart shapes.now first second bound.old.items ≡ Some bound.new.items) (two_apart shapes.now first second bound.old.items ≡ None)) }
+{
+    match shapes {
+        [one, other] => take_in_turn(alloc, one, first, other, second, bound),
+        _ => Ok(false),
+    }
+}
+
+fn take_in_turn(
+    alloc: Global,
+    one: &Shape,
+    first: Value,
+    other: &Shape,
+    second: Value,
+    bound: &mut Vec<Value>,
+) -> Result<bool, AllocError>
+    ensures { IfOk result (λ fits. MatchBool fits
+        (and_then (taken_apart one.now first bound.old.items) (taken_apart other.now second) ≡ Some bound.new.items)
+        (and_then (taken_apart one.now first bound.old.items) (taken_apart other.now second) ≡ None)) }
+{
+    if take_whole(alloc, one, first, bound)? {
+        take_whole(alloc, other, second, bound)
+    } else {
+        Ok(false)
     }
 }
 

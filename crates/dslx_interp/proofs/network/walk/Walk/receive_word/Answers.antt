@@ -23,14 +23,14 @@ returns-clause-goes c =
     let mid : Walk = record { bound = old.bound; received = old.received + 1; site = old.site + 1 } in
     let there : slice_get c.args.got.now old.received ≡ Some c.in-Some.word = sym c.word_at.ensures ∙ c.in-Some.is in
     let before : old.site < c.args.done = omega (arith, c.if-self-done.false) in
-    let is : c.in_ok-value.value ≡ with_token (unflat_of t (c.in-Some.word).value) = c.in_ok-value.ensures ∙ ap with_token c.in_ok-word_value.ensures in
-    IfOk-weaker c.take.result _ _
-    (λ ended h. later_goes (receive_on t c.args.receive.now.shape) c.args.got.now c.args.done old c.take.new.self ended (λ more later l.
-    receive_goes t c.args.receive.now.shape (c.args.got.now ++ more) later old mid c.take.new.self c.in-Some.word c.in_ok-value.value ended (omega (arith, before, l)) (word_stays c.args.got.now more old.received c.in-Some.word there) is refl refl refl h))
-    c.take.ensures.binds
+    let is : with_token c.in_ok-value.value ≡ with_token (unflat_of t (c.in-Some.word).value) = ap with_token c.in_ok-value.ensures in
+    IfOk-weaker c.take_received.result _ _
+    (λ ended h. later_goes (receive_on t c.args.receive.now.shape) c.args.got.now c.args.done old c.take_received.new.self ended (λ more later l.
+    receive_goes t c.args.receive.now.shape (c.args.got.now ++ more) later old mid c.take_received.new.self c.in-Some.word (with_token c.in_ok-value.value) ended (omega (arith, before, l)) (word_stays c.args.got.now more old.received c.in-Some.word there) is refl refl refl h))
+    c.take_received.ensures.binds
 
 pub returns-in_default-clause-waits : goal.returns-in_default-clause-waits
 returns-in_default-clause-waits c = ended_waits c.args.self.now c.args.self.now _ c.ended.ensures
 
 pub returns-clause-waits : goal.returns-clause-waits
-returns-clause-waits c = IfOk-weaker c.take.result _ _ (λ ended h. bound_waits c.args.receive.now.shape c.in_ok-value.value c.args.self.now (record { bound = c.args.self.now.bound; received = c.args.self.now.received + 1; site = c.args.self.now.site + 1 }) c.take.new.self ended h) c.take.ensures.binds
+returns-clause-waits c = IfOk-weaker c.take_received.result _ _ (λ ended h. bound_waits c.args.receive.now.shape (with_token c.in_ok-value.value) c.args.self.now (record { bound = c.args.self.now.bound; received = c.args.self.now.received + 1; site = c.args.self.now.site + 1 }) c.take_received.new.self ended h) c.take_received.ensures.binds
