@@ -1,12 +1,13 @@
 -- What the recursion finds, by the definition of values.
-use Rattle.std.proofs.Common.{◌≡◌, ◌<◌, ◌≤◌, ◌-◌, ◌==◌, ℕ, zero, suc, Bool, true, false, List, [], ◌∷◌, ◌++◌, Option, Some, None, drop, take, length, map, refl, sym, ap, ◌∙◌, arith, if◌then◌else◌}
-use Rattle.std.specs.Prelude.{MatchBool, slice_get}
+use Rattle.std.proofs.Common.{◌≡◌, ◌<◌, ◌==◌, ℕ, zero, suc, Bool, true, false, List, [], ◌∷◌, ◌++◌, Option, Some, None, drop, take, length, map, refl, sym, ap, ◌∙◌, arith, if◌then◌else◌}
+use Rattle.std.specs.Prelude.{MatchBool, option_map, slice_get}
 use Rattle.std.proofs.lemmas.List.{append_assoc}
 use Rattle.xb_bits.specs.Word.{Word, word}
 use Rattle.xb_bits.specs.Operations.{add}
 use Rattle.xb_value.specs.declared.value.Value.{Value, Bits}
+use Rattle.xb_value.specs.declared.value.Value.TheViews.{outs-Bits}
 use Rattle.dslx_meaning.specs.Lists.{all_some, and_then}
-use Rattle.dslx_core.specs.CoreValues.{Bindings, CoreArmDen, CoreDen, Functions, arm_or, arm_step, core_step, core_value, first_apart, select, turns, values_in}
+use Rattle.dslx_core.specs.CoreValues.{Bindings, CoreArmDen, CoreDen, Functions, arm_or, arm_step, core_step, core_value, first_apart, select, turns, values_in, word_of_value, word_step}
 use Rattle.dslx_core.specs.Designs.{no_function}
 use Rattle.dslx_core.specs.declared.design.Function.{Function}
 use Rattle.dslx_core.specs.declared.expr.Arm.{Arm, out-Arm}
@@ -24,6 +25,14 @@ plain_arm a = record { shapes = (out-Arm a).shapes; value = core_value (out-Arm 
 
 arm_opened : (a : Arm) → arm_den a ≡ plain_arm a
 arm_opened a = fold_out-Arm CoreDen CoreArmDen core_step arm_step a
+
+-- the word that a word's value is
+pub word_back : (r : Option Word) (o : Option Value) → option_map Bits r ≡ o → r ≡ and_then o word_of_value
+word_back r o h = by r ∙ ap (λ q. and_then q word_of_value) h
+  where
+    by : (r : Option Word) → r ≡ and_then (option_map Bits r) word_of_value
+    by None = refl
+    by (Some w) = ap word_step (sym (outs-Bits w))
 
 -- ---- several
 

@@ -10,7 +10,7 @@ use Rattle.dslx_interp.specs.declared.eval.machine.Machine.{Machine}
 use Rattle.dslx_interp.specs.declared.eval.task.Task.{Task}
 use Rattle.dslx_interp.specs.Eval.Inner.Machine.{MachineState, shown, stepped}
 use Rattle.dslx_interp.specs.Eval.Inner.Tasks.{ValueDen, plain_task}
-use Rattle.dslx_interp.proofs.OnEval.Calls.{calls_before, all_calls}
+use Rattle.dslx_interp.proofs.OnEval.Calls.{all_calls}
 use Rattle.dslx_interp.proofs.OnEval.Keeps.{answer, answer_of, keeps}
 
 popped : {A : Type 0} (xs : List A) (x : A) → slice_get xs 0 ≡ Some x → xs ≡ x ∷ drop 1 xs

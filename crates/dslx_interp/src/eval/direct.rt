@@ -8,15 +8,16 @@ ghost use Rattle.xb_bits.specs.Word.{word};
 ghost use Rattle.xb_bits.specs.Operations.{add as add_words};
 ghost use Rattle.xb_value.specs.declared.value.Value.{Bits as of_bits, Tuple as of_tuple, Array as of_array, out-Value};
 ghost use Rattle.dslx_meaning.specs.Lists.{and_then, with_both};
-ghost use Rattle.dslx_core.specs.CoreValues.{Functions, core_value, core_step, values_in as all_values, select, turns, one_turn as turn_by, taken_apart, tuple_values_step, array_values_step, word_of_value};
+ghost use Rattle.dslx_core.specs.CoreValues.{Functions, core_value, core_step, values_in as all_values, select, turns, one_turn as turn_by, taken_apart, tuple_values_step, array_values_step, word_in as word_by};
 ghost use Rattle.dslx_core.specs.declared.expr.CoreExpr.{out-CoreExpr};
 ghost use Rattle.dslx_core.specs.declared.expr.CoreExpr.TheOpen.{CoreExpr-F};
 ghost use Rattle.dslx_interp.specs.Eval.Inner.Direct.{calls_of, arm_den, layer, read_at};
 
 use crate::eval::stepping::machine_value;
 use crate::operate::{
-    binary_value, cast_value, condition, element, indexed, part_value, place_of, slice_value,
-    take_first, take_whole, unary_value, updated, value_at, word_of,
+    binary_given, binary_word_given, cast_given, cast_word_given, element, is_one_given,
+    part_value, place_of, slice_value, take_first, take_whole, unary_given, updated, value_at,
+    word_of, word_of_one, word_of_slot,
 };
 use dslx_core::{Arm, CoreBinary, CoreExpr, CoreUnary, Function, Shape, Sign};
 use std::alloc::{AllocError, Global};
@@ -180,6 +181,109 @@ fn layer_in(
     }
 }
 
+/// The word that the value of an expression is, unless it is none.
+#[cycle(direct)]
+fn word_in(
+    alloc: Global,
+    functions: &[Function],
+    levels: u32,
+    expr: &CoreExpr,
+    bound: &mut Vec<Value>,
+) -> Result<Option<Bits>, AllocError>
+    ensures value { IfOk result (λ w. w ≡ word_by (core_value expr.now) (calls_of functions.now) bound.old.items) }
+    ensures stays { OnOk result (bound.new.items ≡ bound.old.items) }
+{
+    if levels == 0 {
+        let value = value_by_machine(alloc, functions, expr, bound.as_slice())?;
+        return Ok(word_of(&value));
+    }
+    word_layer(alloc, functions, levels - 1, expr, bound)
+}
+
+/// The same, by the parts of the expression. A word that is bound isn't copied to a value first.
+#[cycle(direct)]
+fn word_layer(
+    alloc: Global,
+    functions: &[Function],
+    levels: u32,
+    expr: &CoreExpr,
+    bound: &mut Vec<Value>,
+) -> Result<Option<Bits>, AllocError>
+    ensures value { IfOk result (λ w. w ≡ word_by (layer (out-CoreExpr expr.now)) (calls_of functions.now) bound.old.items) }
+    ensures stays { OnOk result (bound.new.items ≡ bound.old.items) }
+{
+    match expr {
+        CoreExpr::Literal(value) => Ok(word_of_one(value)),
+        CoreExpr::Slot(number) => Ok(word_of_slot(bound.as_slice(), *number)),
+        CoreExpr::Binary(op, left, right) => {
+            binary_word_in(
+                alloc,
+                functions,
+                levels,
+                *op,
+                left.get(),
+                right.get(),
+                bound,
+            )
+        }
+        CoreExpr::Cast(sign, width, expr) => {
+            cast_word_in(alloc, functions, levels, *sign, *width, expr.get(), bound)
+        }
+        _ => other_word_in(alloc, functions, levels, expr, bound),
+    }
+}
+
+/// The same by way of the value.
+#[cycle(direct)]
+fn other_word_in(
+    alloc: Global,
+    functions: &[Function],
+    levels: u32,
+    expr: &CoreExpr,
+    bound: &mut Vec<Value>,
+) -> Result<Option<Bits>, AllocError>
+    ensures value { IfOk result (λ w. w ≡ word_by (layer (out-CoreExpr expr.now)) (calls_of functions.now) bound.old.items) }
+    ensures stays { OnOk result (bound.new.items ≡ bound.old.items) }
+{
+    let value = layer_in(alloc, functions, levels, expr, bound)?;
+    Ok(word_of(&value))
+}
+
+#[cycle(direct)]
+fn binary_word_in(
+    alloc: Global,
+    functions: &[Function],
+    levels: u32,
+    op: CoreBinary,
+    left: &CoreExpr,
+    right: &CoreExpr,
+    bound: &mut Vec<Value>,
+) -> Result<Option<Bits>, AllocError>
+    ensures value { IfOk result (λ w. w ≡ word_by (core_step (CoreExpr-F.Binary op (core_value left.now) (core_value right.now))) (calls_of functions.now) bound.old.items) }
+    ensures stays { OnOk result (bound.new.items ≡ bound.old.items) }
+{
+    let first = word_in(alloc, functions, levels, left, bound)?;
+    let second = word_in(alloc, functions, levels, right, bound)?;
+    Ok(binary_word_given(op, first, second))
+}
+
+#[cycle(direct)]
+fn cast_word_in(
+    alloc: Global,
+    functions: &[Function],
+    levels: u32,
+    sign: Sign,
+    width: u8,
+    expr: &CoreExpr,
+    bound: &mut Vec<Value>,
+) -> Result<Option<Bits>, AllocError>
+    ensures value { IfOk result (λ w. w ≡ word_by (core_step (CoreExpr-F.Cast sign width (core_value expr.now))) (calls_of functions.now) bound.old.items) }
+    ensures stays { OnOk result (bound.new.items ≡ bound.old.items) }
+{
+    let word = word_in(alloc, functions, levels, expr, bound)?;
+    Ok(cast_word_given(sign, width, word))
+}
+
 fn copied(alloc: Global, value: &Value) -> Result<Option<Value>, AllocError>
     ensures { IfOk result (λ v. v ≡ Some value.now) }
 {
@@ -255,8 +359,8 @@ fn unary_in(
     ensures value { IfOk result (λ v. v ≡ core_step (CoreExpr-F.Unary op (core_value expr.now)) (calls_of functions.now) bound.old.items) }
     ensures stays { OnOk result (bound.new.items ≡ bound.old.items) }
 {
-    let value = value_in(alloc, functions, levels, expr, bound)?;
-    Ok(unary_value(op, &value))
+    let word = word_in(alloc, functions, levels, expr, bound)?;
+    Ok(unary_given(op, word))
 }
 
 #[cycle(direct)]
@@ -272,9 +376,9 @@ fn binary_in(
     ensures value { IfOk result (λ v. v ≡ core_step (CoreExpr-F.Binary op (core_value left.now) (core_value right.now)) (calls_of functions.now) bound.old.items) }
     ensures stays { OnOk result (bound.new.items ≡ bound.old.items) }
 {
-    let first = value_in(alloc, functions, levels, left, bound)?;
-    let second = value_in(alloc, functions, levels, right, bound)?;
-    Ok(binary_value(op, &first, &second))
+    let first = word_in(alloc, functions, levels, left, bound)?;
+    let second = word_in(alloc, functions, levels, right, bound)?;
+    Ok(binary_given(op, first, second))
 }
 
 #[cycle(direct)]
@@ -290,8 +394,8 @@ fn cast_in(
     ensures value { IfOk result (λ v. v ≡ core_step (CoreExpr-F.Cast sign width (core_value expr.now)) (calls_of functions.now) bound.old.items) }
     ensures stays { OnOk result (bound.new.items ≡ bound.old.items) }
 {
-    let value = value_in(alloc, functions, levels, expr, bound)?;
-    Ok(cast_value(sign, width, &value))
+    let word = word_in(alloc, functions, levels, expr, bound)?;
+    Ok(cast_given(sign, width, word))
 }
 
 #[cycle(direct)]
@@ -364,12 +468,12 @@ fn index_in(
     ensures value { IfOk result (λ v. v ≡ core_step (CoreExpr-F.Index (core_value array.now) (core_value place.now)) (calls_of functions.now) bound.old.items) }
     ensures stays { OnOk result (bound.new.items ≡ bound.old.items) }
 {
-    let place = value_in(alloc, functions, levels, place, bound)?;
+    let place = word_in(alloc, functions, levels, place, bound)?;
     match value_there(array, bound.as_slice()) {
-        Some(value) => index_of(alloc, value, &place),
+        Some(value) => index_of(alloc, value, place),
         None => {
             let value = value_in(alloc, functions, levels, array, bound)?;
-            indexed(alloc, &value, &place)
+            indexed_given(alloc, &value, place)
         }
     }
 }
@@ -450,8 +554,8 @@ fn choose_in(
     ensures value { IfOk result (λ v. v ≡ core_step (CoreExpr-F.Choose (core_value test.now) (core_value yes.now) (core_value no.now)) (calls_of functions.now) bound.old.items) }
     ensures stays { OnOk result (bound.new.items ≡ bound.old.items) }
 {
-    let value = value_in(alloc, functions, levels, test, bound)?;
-    match condition(&value) {
+    let word = word_in(alloc, functions, levels, test, bound)?;
+    match is_one_given(word) {
         Some(true) => value_in(alloc, functions, levels, yes, bound),
         Some(false) => value_in(alloc, functions, levels, no, bound),
         None => Ok(None),
@@ -671,18 +775,28 @@ fn element_of(alloc: Global, value: &Value, number: u64) -> Result<Option<Value>
 }
 
 /// The element of an array at the index that a word is, the last one where the index is past the end.
-fn index_of(
-    alloc: Global,
-    array: &Value,
-    place: &Option<Value>,
-) -> Result<Option<Value>, AllocError>
-    ensures { IfOk result (λ v. v ≡ with_both (array_values_step (out-Value array.now)) (and_then place.now word_of_value) read_at) }
+fn index_of(alloc: Global, array: &Value, place: Option<Bits>) -> Result<Option<Value>, AllocError>
+    ensures { IfOk result (λ v. v ≡ with_both (array_values_step (out-Value array.now)) place read_at) }
 {
-    match (array, word_of(place)) {
+    match (array, place) {
         (Value::Array(elements), Some(word)) => {
             value_at(alloc, elements.as_slice(), place_of(word, elements.len()))
         }
         _ => Ok(None),
+    }
+}
+
+/// The same where there may be no array.
+fn indexed_given(
+    alloc: Global,
+    array: &Option<Value>,
+    place: Option<Bits>,
+) -> Result<Option<Value>, AllocError>
+    ensures { IfOk result (λ v. v ≡ with_both (and_then array.now (λ v. array_values_step (out-Value v))) place read_at) }
+{
+    match array {
+        Some(array) => index_of(alloc, array, place),
+        None => Ok(None),
     }
 }
 

@@ -1,4 +1,5 @@
 ghost use Rattle.std.specs.Prelude.{◌≡◌, ◌<◌, ◌+◌, ◌&&◌, ℕ, nat_lt, nat_le, min, pred, length, slice_get, set, IfOk, if◌then◌else◌};
+ghost use Rattle.std.specs.Option.{option_map};
 ghost use Rattle.xb_bits.specs.Operations.{slice as slice_word, dyn_slice as dyn_slice_word};
 ghost use Rattle.xb_value.specs.declared.value.Value.{Bits as of_bits, Array as of_array, out-Value};
 ghost use Rattle.dslx_meaning.specs.Lists.{and_then, with_both, where_true};
@@ -18,6 +19,105 @@ pub fn word_of(value: &Option<Value>) -> Option<Bits>
     match value {
         Some(Value::Bits(word)) => Some(*word),
         _ => None,
+    }
+}
+
+/// The word that a value is.
+pub(crate) fn word_of_one(value: &Value) -> Option<Bits>
+    ensures { result ≡ word_of_value value.now }
+{
+    match value {
+        Value::Bits(word) => Some(*word),
+        _ => None,
+    }
+}
+
+/// The word that the value of this number is.
+pub(crate) fn word_of_slot(values: &[Value], number: u64) -> Option<Bits>
+    ensures { result ≡ and_then (slice_get values.now number) word_of_value }
+{
+    match values.get(number as usize) {
+        Some(value) => word_of_one(value),
+        None => None,
+    }
+}
+
+/// What an operation gives for a word.
+pub(crate) fn unary_given(op: CoreUnary, word: Option<Bits>) -> Option<Value>
+    ensures { result ≡ and_then word (λ w. Some (of_bits (unary_word op w))) }
+{
+    match word {
+        Some(word) => Some(Value::Bits(unary(op, word))),
+        None => None,
+    }
+}
+
+/// What an operation gives for two words.
+pub(crate) fn binary_given(op: CoreBinary, left: Option<Bits>, right: Option<Bits>) -> Option<Value>
+    ensures { result ≡ with_both left right (binary_words op) }
+{
+    match (left, right) {
+        (Some(x), Some(y)) => match binary(op, x, y) {
+            Some(word) => Some(Value::Bits(word)),
+            None => None,
+        },
+        _ => None,
+    }
+}
+
+/// The same as a word.
+pub(crate) fn binary_word_given(
+    op: CoreBinary,
+    left: Option<Bits>,
+    right: Option<Bits>,
+) -> Option<Bits>
+    ensures { option_map of_bits result ≡ with_both left right (binary_words op) }
+{
+    match (left, right) {
+        (Some(x), Some(y)) => binary(op, x, y),
+        _ => None,
+    }
+}
+
+/// A word cut off or made longer to so many bits.
+pub(crate) fn cast_given(sign: Sign, width: u8, word: Option<Bits>) -> Option<Value>
+    ensures { result ≡ and_then word (λ x. where_true (is_word_width width) (Some (of_bits (cast_word (is_signed_read sign) width x)))) }
+{
+    match word {
+        Some(word) => if is_width(width) {
+            Some(Value::Bits(cast(sign, width, word)))
+        } else {
+            None
+        },
+        None => None,
+    }
+}
+
+/// The same as a word.
+pub(crate) fn cast_word_given(sign: Sign, width: u8, word: Option<Bits>) -> Option<Bits>
+    ensures { option_map of_bits result ≡ and_then word (λ x. where_true (is_word_width width) (Some (of_bits (cast_word (is_signed_read sign) width x)))) }
+{
+    match word {
+        Some(word) => if is_width(width) {
+            Some(cast(sign, width, word))
+        } else {
+            None
+        },
+        None => None,
+    }
+}
+
+/// Whether a word of one bit is 1.
+pub(crate) fn is_one_given(word: Option<Bits>) -> Option<bool>
+    ensures { result ≡ and_then word is_one }
+{
+    match word {
+        Some(word) => if word.width() == 1 {
+            Some(word.value() == 1)
+        } else {
+            None
+        },
+        None => None,
     }
 }
 

@@ -1,5 +1,5 @@
 -- The value of an expression by those of its parts.
-use Rattle.std.specs.Prelude.{◌≡◌, ℕ, pred, min, length, List, [], ◌∷◌, slice_get, Option, Some, None}
+use Rattle.std.specs.Prelude.{pred, min, length, List, [], ◌∷◌, slice_get, Option, None}
 use Rattle.xb_bits.specs.Word.{Word}
 use Rattle.xb_value.specs.declared.value.Value.{Value}
 use Rattle.dslx_meaning.specs.Lists.{and_then}

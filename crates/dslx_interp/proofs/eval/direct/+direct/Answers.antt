@@ -1,15 +1,16 @@
-use Rattle.std.proofs.Common.{◌≡◌, ◌-◌, ◌+◌, ◌==◌, true, false, Some, None, ap, sym, ◌∙◌, arith, length}
-use Rattle.std.specs.Prelude.{slice_get}
+use Rattle.std.proofs.Common.{rules, ◌≡◌, ◌-◌, ◌+◌, ◌==◌, true, false, Some, ap, sym, ◌∙◌, arith, length}
+use Rattle.std.specs.Prelude.{option_map, slice_get}
 use Rattle.std.proofs.lemmas.Bool.Decides.{nat_tests}
 use Rattle.std.proofs.lemmas.Option.{slice_get-get_or, slice_get_past}
 use Rattle.std.proofs.lemmas.Result.{IfOk-weaker}
 use Rattle.xb_value.specs.declared.value.Value.{Bits, out-Value}
 use Rattle.dslx_meaning.specs.Lists.{and_then}
-use Rattle.dslx_core.specs.CoreValues.{Bindings, CoreDen, core_value, first_apart, one_turn, tuple_values_step, turns}
+use Rattle.dslx_core.specs.CoreValues.{Bindings, CoreDen, core_step, core_value, first_apart, one_turn, tuple_values_step, turns}
 use Rattle.dslx_core.specs.declared.expr.Arm.{Arm, out-Arm}
 use Rattle.dslx_core.specs.declared.expr.CoreExpr.{out-CoreExpr}
+use Rattle.dslx_core.specs.declared.expr.CoreExpr.TheOpen.{CoreExpr-F}
 use Rattle.dslx_interp.specs.Eval.Inner.Direct.{calls_of, layer}
-use Rattle.dslx_interp.proofs.OnEval.Direct.{opened, not_fitting, next_arm_there, no_call, wrong_count, right_count, turn_more, turn_none}
+use Rattle.dslx_interp.proofs.OnEval.Direct.{opened, not_fitting, word_back, next_arm_there, no_call, wrong_count, right_count, turn_more, turn_none}
 use Rattle.dslx_interp.proofs.eval.direct.+direct.Goals as goal
 
 pub arms_in-arms-preserved : goal.arms_in-arms-preserved
@@ -68,3 +69,15 @@ turns_in-turns-preserved t c =
       stays = c.in_ok-next.ensures.stays ∙ c.turns.invariant.stays;
       whole = ap (λ w. turns (turn_over c.args.bound.now.items) (c.args.count - (c.turns.turn + 1)) w c.in-Some.next) c.next_index-index.ensures ∙ (sym more ∙ c.turns.invariant.whole);
     }
+
+pub binary_word_in-returns-clause-value : goal.binary_word_in-returns-clause-value
+binary_word_in-returns-clause-value t c =
+    let is : option_map Bits c.binary_word_given.result ≡ core_step (CoreExpr-F.Binary c.args.op (core_value c.args.left.now) (core_value c.args.right.now)) (calls_of c.args.functions.now) c.args.bound.now.items =
+    search rules in
+    word_back _ _ is
+
+pub cast_word_in-returns-clause-value : goal.cast_word_in-returns-clause-value
+cast_word_in-returns-clause-value t c =
+    let is : option_map Bits c.cast_word_given.result ≡ core_step (CoreExpr-F.Cast c.args.sign c.args.width (core_value c.args.expr.now)) (calls_of c.args.functions.now) c.args.bound.now.items =
+    search rules in
+    word_back _ _ is

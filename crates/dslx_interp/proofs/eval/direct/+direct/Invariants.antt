@@ -37,6 +37,21 @@ decreases-value_in l = 8 * l.levels
 abbrev pub decreases-layer_in : goal.decreases-layer_in
 decreases-layer_in l = 8 * l.levels + 5
 
+abbrev pub decreases-word_in : goal.decreases-word_in
+decreases-word_in l = 8 * l.levels
+
+abbrev pub decreases-word_layer : goal.decreases-word_layer
+decreases-word_layer l = 8 * l.levels + 7
+
+abbrev pub decreases-other_word_in : goal.decreases-other_word_in
+decreases-other_word_in l = 8 * l.levels + 6
+
+abbrev pub decreases-binary_word_in : goal.decreases-binary_word_in
+decreases-binary_word_in l = 8 * l.levels + 4
+
+abbrev pub decreases-cast_word_in : goal.decreases-cast_word_in
+decreases-cast_word_in l = 8 * l.levels + 4
+
 abbrev pub decreases-each_in : goal.decreases-each_in
 decreases-each_in l = 8 * l.levels + 1
 
