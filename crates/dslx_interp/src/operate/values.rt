@@ -17,8 +17,8 @@ pub fn word_of(value: &Option<Value>) -> Option<Bits>
     ensures { result ≡ and_then value.now word_of_value }
 {
     match value {
-        Some(Value::Bits(word)) => Some(*word),
-        _ => None,
+        Some(value) => word_of_one(value),
+        None => None,
     }
 }
 
@@ -125,23 +125,14 @@ pub(crate) fn is_one_given(word: Option<Bits>) -> Option<bool>
 pub fn unary_value(op: CoreUnary, value: &Option<Value>) -> Option<Value>
     ensures { result ≡ and_then (and_then value.now word_of_value) (λ w. Some (of_bits (unary_word op w))) }
 {
-    match word_of(value) {
-        Some(word) => Some(Value::Bits(unary(op, word))),
-        None => None,
-    }
+    unary_given(op, word_of(value))
 }
 
 /// What an operation gives for the words that two values are.
 pub fn binary_value(op: CoreBinary, left: &Option<Value>, right: &Option<Value>) -> Option<Value>
     ensures { result ≡ with_both (and_then left.now word_of_value) (and_then right.now word_of_value) (binary_words op) }
 {
-    match (word_of(left), word_of(right)) {
-        (Some(x), Some(y)) => match binary(op, x, y) {
-            Some(word) => Some(Value::Bits(word)),
-            None => None,
-        },
-        _ => None,
-    }
+    binary_given(op, word_of(left), word_of(right))
 }
 
 /// The word that a value is, cut off or made longer to so many bits.
@@ -149,14 +140,7 @@ pub fn cast_value(sign: Sign, width: u8, value: &Option<Value>) -> Option<Value>
     ensures { result ≡ and_then (and_then value.now word_of_value)
         (λ x. where_true (is_word_width width) (Some (of_bits (cast_word (is_signed_read sign) width x)))) }
 {
-    match word_of(value) {
-        Some(word) => if is_width(width) {
-            Some(Value::Bits(cast(sign, width, word)))
-        } else {
-            None
-        },
-        None => None,
-    }
+    cast_given(sign, width, word_of(value))
 }
 
 /// So many bits of the word that a value is, from this one on.
@@ -193,14 +177,7 @@ pub fn part_value(value: &Option<Value>, start: &Option<Value>, width: u8) -> Op
 pub fn condition(value: &Option<Value>) -> Option<bool>
     ensures { result ≡ and_then (and_then value.now word_of_value) is_one }
 {
-    match word_of(value) {
-        Some(word) => if word.width() == 1 {
-            Some(word.value() == 1)
-        } else {
-            None
-        },
-        None => None,
-    }
+    is_one_given(word_of(value))
 }
 
 /// The value at an index, if there is one.
