@@ -24,7 +24,8 @@ use Rattle.net_core.specs.Outcomes.{stall_for}
 use Rattle.net_core.specs.Nexts.{EventFits}
 use Rattle.net_core.specs.Cuts.{Proc, Run, words_sent, count_received, words_at, received_at, final_cut}
 use Rattle.net_core.specs.Machine.{Position, next_of}
-use Rattle.net_core.proofs.Lemmas.{next_keeps_types}
+use Rattle.net_core.specs.declared.activation.Activation.{Activation}
+use Rattle.net_core.proofs.Lemmas.{next_keeps_types, EventAt, receives_at, sends_at, ends_with, next_at}
 use Rattle.chan_queue.specs.Streams.Streams.{IsSiteOn}
 use Rattle.chan_queue.specs.Streams.Moves.{IsStanding, GoesOn, first_events, sent_first, received_first}
 use Rattle.chan_queue.proofs.Lemmas.Streams.{chan_there, begins, before, ends_next, sends_go, receives_go, sends_within, receives_within, input_words}
@@ -32,7 +33,7 @@ use Rattle.proc_task.specs.declared.port.Outlet.{Outlet}
 use Rattle.proc_task.specs.declared.port.Inlet.{Inlet}
 use Rattle.proc_task.specs.declared.task.Task.{Task}
 use Rattle.proc_task.specs.Ports.{IsOutlet, IsInlet, OutRight, InRight, NextBy, PutBy, TakeBy, IsNextOn, MayPut, MayTake, IsFull, IsDry}
-use Rattle.proc_task.specs.Moving.{HasOutlet, HasInlet, HasEnds, position_of, IsTask, IsNewTask, IsBefore, Waits, IsSameTask, IsAtSiteIn, end_at}
+use Rattle.proc_task.specs.Moving.{HasOutlet, HasInlet, HasEnds, position_of, IsTask, IsNewTask, IsBefore, Waits, IsFurther, IsSameTask, IsAtSiteIn, end_at}
 use Rattle.proc_task.proofs.Ports.{at_set, with_outlet, with_inlet}
 
 apart : (m n : ℕ) → m ≢ n → eqb m n ≡ false
@@ -85,6 +86,17 @@ count_most sites c [] = omega arith
 count_most sites c (Recv i ∷ es) = omega (arith, count_most sites c es, count_if (eqb (chan_at sites i) c) (count_received sites c es))
 count_most sites c (Send i w ∷ es) = omega (arith, count_most sites c es)
 count_most sites c (End s ∷ es) = omega (arith, count_most sites c es)
+
+-- the site of an event, which isn't past
+abbrev site_or : ℕ → Event → ℕ
+site_or done (Recv i) = i
+site_or done (Send i w) = i
+site_or done (End s) = done
+
+not_past : (b : Behavior) (s : Value) (got : List Word) (done : ℕ) (event : Event) → EventAt b s got done event → done ≤ site_or done event
+not_past b s got done _ (receives_at i site later place stands turn) = later
+not_past b s got done _ (sends_at i site w later place stands turn) = later
+not_past b s got done _ (ends_with stands) = omega arith
 
 product : (ends n : ℕ) → ends < 2 ^ 32 → n < 2 ^ 30 → ends * suc n + n < 2 ^ 62
 product ends n e f =
@@ -183,8 +195,16 @@ module _ {S H : Type 0} (run : Run) (lines : List (Option (ChanQueue S))) where
       fits = subst (λ x. EventFits proc.behavior x) comes
           (next_keeps_types proc.behavior (is.typed.fits.keeps_types t.number proc is.standing.proc_is) t.state t.got.items t.done is.standing.stands_open)
 
+      later : t.done ≤ site_or t.done event
+      later =
+          subst (λ x. t.done ≤ site_or t.done x) comes
+          (not_past proc.behavior t.state t.got.items t.done _ (next_at proc.behavior t.state t.got.items t.done is.standing.stands_open))
+
     -- a receive
     module _ (i : ℕ) (next : IsBefore run t (Recv i)) where
+      pub receive_later : t.done ≤ i
+      receive_later = later (Recv i) next
+
       pub inlet_there : (site : Site) × (slice_get t.sites.items i ≡ Some site) × HasInlet t.sites.items t.indices.items t.inlets.items i site
       inlet_there =
           let fit = fits (Recv i) next in
@@ -299,6 +319,9 @@ module _ {S H : Type 0} (run : Run) (lines : List (Option (ChanQueue S))) where
 
     -- a send
     module _ (i : ℕ) (w : Word) (next : IsBefore run t (Send i w)) where
+      pub send_later : t.done ≤ i
+      send_later = later (Send i w) next
+
       pub outlet_there : (site : Site) × (slice_get t.sites.items i ≡ Some site) × HasOutlet t.sites.items t.indices.items t.outlets.items i site
       outlet_there =
           let fit = fits (Send i w) next in
@@ -458,6 +481,26 @@ module _ {S H : Type 0} where
     outlets = λ k. b.outlets k ∙ a.outlets k;
     inlets = λ k. b.inlets k ∙ a.inlets k;
   }
+
+  -- where nothing was received and no site passed
+  pub stays_put : (t u : Task S H) → position_of u ≡ position_of t → IsFurther t u
+  stays_put t u here = record {
+    state = ap (λ (x : Position). x.state) here;
+    more = [];
+    got = ap (λ (x : Position). x.got) here ∙ sym (append-nil t.got.items);
+    done = omega (arith, ap (λ (x : Position). x.done) here);
+  }
+
+  -- what is kept of an activation, where it goes on
+  pub keeps_further : (keeps : H → ℕ → Activation → Value → List Word → ℕ → Type 0)
+      → ((runtime : H) (number : ℕ) (kept : Activation) (state : Value) (got more : List Word) (done later : ℕ) → done ≤ later
+      → keeps runtime number kept state got done → keeps runtime number kept state (got ++ more) later)
+      → (kept : Activation) (t u : Task S H) → IsSameTask t u → IsFurther t u
+      → keeps t.runtime t.number kept t.state t.got.items t.done → keeps u.runtime u.number kept u.state u.got.items u.done
+  keeps_further keeps stays kept t u same on h =
+      subst (λ (x : H × ℕ × Value × List Word). keeps x.0 x.1 kept x.2 x.3 u.done)
+      (λ i. (sym same.runtime i, sym same.number i, sym on.state i, sym on.got i))
+      (stays t.runtime t.number kept t.state t.got.items on.more t.done u.done on.done h)
 
 -- the first event of an active proc, and what it waits for
 pub stall_active : (run : Run) (proc : Proc) (at : Position) → at.ends < run.activations → (end_at run proc at).stall ≡ stall_for proc.behavior.sites at.ends (next_of proc.behavior at)

@@ -1,5 +1,6 @@
 -- A task: a proc that moves, and where it stands in its run.
-use Rattle.std.specs.Prelude.{◌≡◌, ◌≢◌, ℕ, ◌<◌, ◌≤◌, ◌⊎◌, Bool, true, false, List, [], length, Option, Some, None, slice_get, option_map, nat_lt, if◌then◌else◌}
+use Rattle.std.specs.Prelude.{◌≡◌, ◌≢◌, ℕ, ◌<◌, ◌≤◌, ◌⊎◌, Bool, true, false, List, [], ◌++◌, length, Option, Some, None, slice_get, option_map, nat_lt, if◌then◌else◌}
+use Rattle.xb_bits.specs.Word.{Word}
 use Rattle.xb_value.specs.declared.value.Value.{Value}
 use Rattle.xb_value.specs.Typing.{IsOfType}
 use Rattle.net_core.specs.declared.outcome.ProcEnd.{ProcEnd}
@@ -122,6 +123,13 @@ module _ {S H : Type 0} where
     pub number : new.number ≡ old.number
     pub outlets : (k : ℕ) → option_map told_out (slice_get new.outlets.items k) ≡ option_map told_out (slice_get old.outlets.items k)
     pub inlets : (k : ℕ) → option_map told_in (slice_get new.inlets.items k) ≡ option_map told_in (slice_get old.inlets.items k)
+
+  -- the same activation, which may have received more words and be past more sites
+  pub record IsFurther (old new : Task S H) : Type 0 where
+    pub state : new.state ≡ old.state
+    pub more : List Word
+    pub got : new.got.items ≡ old.got.items ++ more
+    pub done : old.done ≤ new.done
 
   -- what a meeting changes: what the pass of one outlet, or of one inlet, was told
   pub record IsSameButOutlet (k : ℕ) (old new : Task S H) : Type 0 where

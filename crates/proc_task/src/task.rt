@@ -2,14 +2,15 @@ ghost use Rattle.std.specs.Prelude.{◌≡◌, ◌<◌, ◌≤◌, ◌+◌, suc,
 ghost use Rattle.net_core.specs.declared.event.Event.TheVariants as event;
 ghost use Rattle.net_core.specs.Behavior.{chan_at};
 ghost use Rattle.net_core.specs.Cuts.{Proc};
+ghost use Rattle.net_core.specs.Keeps.{IsNothing};
 ghost use Rattle.net_core.specs.Outcomes.{stall_for};
 ghost use Rattle.chan_queue.specs.Streams.Moves.{sent_first, received_first};
-ghost use Rattle.proc_task.specs.Moving.{IsTask, IsNewTask, IsBefore, IsHeldAt, Waits, IsSameTask, IsSameButOutlet, IsSameButInlet, IsSameButPorts, MeetAt, HasMetAt, IsAtSiteIn, HasSiteOn, end_at, position_of};
+ghost use Rattle.proc_task.specs.Moving.{IsTask, IsNewTask, IsBefore, IsHeldAt, Waits, IsFurther, IsSameTask, IsSameButOutlet, IsSameButInlet, IsSameButPorts, MeetAt, HasMetAt, IsAtSiteIn, HasSiteOn, end_at, position_of};
 
 use crate::port::{Inlet, Outlet, inlet_on, meet, outlet_on};
 use crate::runtime::Runtime;
 use chan_queue::Streams;
-use net_core::{Event, ProcEnd, Site, Stall};
+use net_core::{Activation, Event, ProcEnd, Site, Stall};
 use std::alloc::{AllocError, Global};
 use std::sync::Wait;
 use task_queue::Numbered;
@@ -132,7 +133,9 @@ impl<S: Streams, H: Runtime<S>> Task<S, H> {
         );
     }
 
-    /// Where the task stands, and what went over its channels. It asks the body once, unless the proc is done.
+    /// Where the task stands, and what went over its channels.
+    ///
+    /// Unless the proc is done it asks the body once, which works the open activation out from its first step.
     pub fn finish(self, alloc: Global) -> Result<Ended<S>, AllocError>
         requires { IsTask (H.run self.runtime) (H.lines self.runtime) self }
         ensures { IfOk result (λ ended. (proc : Proc) → slice_get (H.run self.runtime).procs self.number ≡ Some proc →
@@ -154,7 +157,9 @@ impl<S: Streams, H: Runtime<S>> Task<S, H> {
         })
     }
 
-    /// Where it stands, and what it waits for. It asks the body once, unless the proc is done.
+    /// Where it stands, and what it waits for.
+    ///
+    /// Unless the proc is done it asks the body once, which works the open activation out from its first step.
     pub fn end(&self, alloc: Global) -> Result<ProcEnd, AllocError>
         requires { IsTask (H.run self.now.runtime) (H.lines self.now.runtime) self.now }
         ensures { IfOk result (λ end. (proc : Proc) → slice_get (H.run self.now.runtime).procs self.now.number ≡ Some proc →
@@ -204,6 +209,7 @@ impl<S: Streams, H: Runtime<S>> Task<S, H> {
         }
         let event = self.runtime.next(
             alloc,
+            &mut Activation::new(alloc),
             self.number,
             &self.state,
             self.got.as_slice(),
@@ -243,7 +249,8 @@ impl<S: Streams, H: Runtime<S>> Task<S, H> {
 
     /// Makes events until `most` are made, the proc is done, or the next event has no word or no room.
     ///
-    /// It asks the body once for each event that it makes, and once for one that waits.
+    /// It asks the body once for each event that it makes, and once for one that waits. The body works each step of an
+    /// activation out at most once. What an earlier call worked out of the open activation isn't kept.
     pub fn advance<R: Wait>(&mut self, rt: &R, alloc: Global, most: u32) -> Result<u32, AllocError>
         requires { IsTask (H.run self.old.runtime) (H.lines self.old.runtime) self.old }
         ensures task { IsTask (H.run self.new.runtime) (H.lines self.new.runtime) self.new }
@@ -252,8 +259,9 @@ impl<S: Streams, H: Runtime<S>> Task<S, H> {
         ensures fewer { IfOk result (λ made. made < most → Waits (H.run self.new.runtime) self.new) }
         ensures err { OnErr result (self.old.count ≤ self.new.count) }
     {
+        let mut kept = Activation::new(alloc);
         for made in 0..most {
-            if !self.step(rt, alloc)? {
+            if !self.step(rt, alloc, &mut kept)? {
                 return Ok(made);
             }
         }
@@ -261,19 +269,30 @@ impl<S: Streams, H: Runtime<S>> Task<S, H> {
     }
 
     /// Makes the next event, if the proc isn't done and there is a word, or room.
-    fn step<R: Wait>(&mut self, rt: &R, alloc: Global) -> Result<bool, AllocError>
-        requires { IsTask (H.run self.old.runtime) (H.lines self.old.runtime) self.old }
+    ///
+    /// `kept` is what was worked out of the activation in which the proc stands, and is still right behind the event and
+    /// where memory is wanting.
+    fn step<R: Wait>(
+        &mut self,
+        rt: &R,
+        alloc: Global,
+        kept: &mut Activation,
+    ) -> Result<bool, AllocError>
+        requires task { IsTask (H.run self.old.runtime) (H.lines self.old.runtime) self.old }
+        requires keeps { H.keeps self.old.runtime self.old.number kept.old self.old.state self.old.got.items self.old.done }
         ensures task { IsTask (H.run self.new.runtime) (H.lines self.new.runtime) self.new }
         ensures same { IsSameTask self.old self.new }
         ensures made { IfOk result (λ made. MatchBool made (self.new.count ≡ suc self.old.count)
             ((self.new.count ≡ self.old.count) × Waits (H.run self.new.runtime) self.new)) }
         ensures err { OnErr result (self.new.count ≡ self.old.count) }
+        ensures keeps { H.keeps self.new.runtime self.new.number kept.new self.new.state self.new.got.items self.new.done }
     {
         if self.ends >= self.runtime.activations() {
             return Ok(false);
         }
         let event = self.runtime.next(
             alloc,
+            kept,
             self.number,
             &self.state,
             self.got.as_slice(),
@@ -283,7 +302,7 @@ impl<S: Streams, H: Runtime<S>> Task<S, H> {
             Event::Recv(site) => self.try_receive(rt, site),
             Event::Send(site, word) => self.try_send(rt, site, word),
             Event::End(state) => {
-                self.end_with(state);
+                self.end_with(state, kept);
                 Ok(true)
             }
         }
@@ -295,6 +314,7 @@ impl<S: Streams, H: Runtime<S>> Task<S, H> {
         requires next { IsBefore (H.run self.old.runtime) self.old (event.Recv site) }
         ensures task { IsTask (H.run self.new.runtime) (H.lines self.new.runtime) self.new }
         ensures same { IsSameTask self.old self.new }
+        ensures further { IsFurther self.old self.new }
         ensures made { IfOk result (λ made. MatchBool made (self.new.count ≡ suc self.old.count)
             ((self.new.count ≡ self.old.count) × Waits (H.run self.new.runtime) self.new)) }
         ensures err { OnErr result (self.new.count ≡ self.old.count) }
@@ -318,6 +338,7 @@ impl<S: Streams, H: Runtime<S>> Task<S, H> {
         requires next { IsBefore (H.run self.old.runtime) self.old (event.Send site word) }
         ensures task { IsTask (H.run self.new.runtime) (H.lines self.new.runtime) self.new }
         ensures same { IsSameTask self.old self.new }
+        ensures further { IsFurther self.old self.new }
         ensures made { IfOk result (λ made. MatchBool made (self.new.count ≡ suc self.old.count)
             ((self.new.count ≡ self.old.count) × Waits (H.run self.new.runtime) self.new)) }
         ensures err { OnErr result (self.new.count ≡ self.old.count) }
@@ -332,18 +353,20 @@ impl<S: Streams, H: Runtime<S>> Task<S, H> {
         }
     }
 
-    /// The activation ends with a state, and the next one begins.
-    fn end_with(&mut self, state: Value)
+    /// The activation ends with a state, and the next one begins, of which nothing is kept.
+    fn end_with(&mut self, state: Value, kept: &mut Activation)
         requires task { IsTask (H.run self.old.runtime) (H.lines self.old.runtime) self.old }
         requires next { IsBefore (H.run self.old.runtime) self.old (event.End state) }
         ensures task { IsTask (H.run self.new.runtime) (H.lines self.new.runtime) self.new }
         ensures same { IsSameTask self.old self.new }
         ensures made { self.new.count ≡ suc self.old.count }
+        ensures kept { IsNothing kept.new }
     {
         self.state = state;
         self.got.clear();
         self.done = 0;
         self.ends += 1;
         self.count += 1;
+        kept.clear();
     }
 }

@@ -1,7 +1,7 @@
 use Rattle.std.proofs.Common.{refl, ap, ◌∙◌, arith, [], ◌∷◌, ◌++◌}
 use Rattle.std.proofs.lemmas.Option.{slice_get_within}
 use Rattle.proc_task.proofs.Ports.{place_read, there_found, told_set}
-use Rattle.proc_task.proofs.Steps.{unchanged, inlet_there, may_take, few_sites, after_receive, held_receive, set_inlet}
+use Rattle.proc_task.proofs.Steps.{unchanged, inlet_there, may_take, few_sites, after_receive, held_receive, set_inlet, receive_later, stays_put}
 use Rattle.proc_task.specs.Ports.{told_in}
 use Rattle.proc_task.proofs.task.Task.try_receive.Goals as goal
 
@@ -9,6 +9,11 @@ pub returns-in_err-reserve-clause-task : goal.returns-in_err-reserve-clause-task
 returns-in_err-reserve-clause-task g c =
     let t = c.args.self.now in
     unchanged _ _ t _ c.requires.task refl refl refl refl (λ i. record { state = t.state; got = c.reserve.ensures.items i; done = t.done; ends = t.ends }) refl refl
+
+pub returns-in_err-reserve-clause-further : goal.returns-in_err-reserve-clause-further
+returns-in_err-reserve-clause-further g c =
+    let t = c.args.self.now in
+    stays_put t _ (λ i. record { state = t.state; got = c.reserve.ensures.items i; done = t.done; ends = t.ends })
 
 pub index-requires : goal.index-requires
 index-requires g c =
@@ -63,6 +68,16 @@ returns-in-Some-clause-same g c =
     let was = there_found t.inlets.items fit.2.place c.index.result.now c.index_mut.result.now fit.2.inlet fit.2.inlet_is at c.index_mut.ensures.value in
     record { runtime = refl; number = refl; outlets = λ k. refl; inlets = told_set told_in t.inlets.items c.index.result.now c.index_mut.result.now c.take.new.self was c.take.ensures.told }
 
+pub returns-in-Some-clause-further : goal.returns-in-Some-clause-further
+returns-in-Some-clause-further g c =
+    let t = c.args.self.now in
+    let later = receive_later _ _ t c.requires.task c.args.site c.requires.next in record {
+      state = refl;
+      more = c.in-Some.word ∷ [];
+      got = c.push_reserved.ensures.items ∙ ap (λ xs. xs ++ c.in-Some.word ∷ []) c.reserve.ensures.items;
+      done = omega (arith, later);
+    }
+
 pub returns-in-None-clause-task : goal.returns-in-None-clause-task
 returns-in-None-clause-task g c =
     let t = c.args.self.now in
@@ -80,6 +95,11 @@ returns-in-None-clause-same g c =
     let at = place_read t.indices.items c.args.site c.index.result.now fit.2.place fit.2.place_is c.index.ensures in
     let was = there_found t.inlets.items fit.2.place c.index.result.now c.index_mut.result.now fit.2.inlet fit.2.inlet_is at c.index_mut.ensures.value in
     record { runtime = refl; number = refl; outlets = λ k. refl; inlets = told_set told_in t.inlets.items c.index.result.now c.index_mut.result.now c.take.new.self was c.take.ensures.told }
+
+pub returns-in-None-clause-further : goal.returns-in-None-clause-further
+returns-in-None-clause-further g c =
+    let t = c.args.self.now in
+    stays_put t _ (λ i. record { state = t.state; got = c.reserve.ensures.items i; done = t.done; ends = t.ends })
 
 pub returns-in-None-clause-made : goal.returns-in-None-clause-made
 returns-in-None-clause-made g c =

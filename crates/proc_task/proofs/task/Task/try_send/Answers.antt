@@ -1,8 +1,9 @@
-use Rattle.std.proofs.Common.{refl, ap, arith}
+use Rattle.std.proofs.Common.{[], refl, sym, ap, arith}
 use Rattle.std.proofs.lemmas.Bool.{MatchBool-at_true, MatchBool-at_false}
+use Rattle.std.proofs.lemmas.List.{append-nil}
 use Rattle.std.proofs.lemmas.Option.{slice_get_within}
 use Rattle.proc_task.proofs.Ports.{place_read, there_found, told_set}
-use Rattle.proc_task.proofs.Steps.{outlet_there, may_put, few_sites, after_send, held_send, set_outlet}
+use Rattle.proc_task.proofs.Steps.{outlet_there, may_put, few_sites, after_send, held_send, set_outlet, send_later, stays_put}
 use Rattle.proc_task.specs.Ports.{told_out}
 use Rattle.proc_task.proofs.task.Task.try_send.Goals as goal
 
@@ -52,6 +53,9 @@ returns-in_err-put-clause-same g c =
     let was = there_found t.outlets.items fit.2.place c.index.result.now c.index_mut.result.now fit.2.outlet fit.2.outlet_is at c.index_mut.ensures.value in
     record { runtime = refl; number = refl; outlets = told_set told_out t.outlets.items c.index.result.now c.index_mut.result.now c.put.new.self was c.put.ensures.told; inlets = λ k. refl }
 
+pub returns-in_err-put-clause-further : goal.returns-in_err-put-clause-further
+returns-in_err-put-clause-further g c = stays_put c.args.self.now _ refl
+
 pub overflow_add-self : goal.overflow_add-self
 overflow_add-self g c =
     let t = c.args.self.now in
@@ -75,6 +79,12 @@ returns-then-branch-clause-same g c =
     let was = there_found t.outlets.items fit.2.place c.index.result.now c.index_mut.result.now fit.2.outlet fit.2.outlet_is at c.index_mut.ensures.value in
     record { runtime = refl; number = refl; outlets = told_set told_out t.outlets.items c.index.result.now c.index_mut.result.now c.put.new.self was c.put.ensures.told; inlets = λ k. refl }
 
+pub returns-then-branch-clause-further : goal.returns-then-branch-clause-further
+returns-then-branch-clause-further g c =
+    let t = c.args.self.now in
+    let later = send_later _ _ t c.requires.task c.args.site c.args.word c.requires.next in
+    record { state = refl; more = []; got = sym (append-nil t.got.items); done = omega (arith, later) }
+
 pub returns-else-branch-clause-task : goal.returns-else-branch-clause-task
 returns-else-branch-clause-task g c =
     let t = c.args.self.now in
@@ -91,6 +101,9 @@ returns-else-branch-clause-same g c =
     let at = place_read t.indices.items c.args.site c.index.result.now fit.2.place fit.2.place_is c.index.ensures in
     let was = there_found t.outlets.items fit.2.place c.index.result.now c.index_mut.result.now fit.2.outlet fit.2.outlet_is at c.index_mut.ensures.value in
     record { runtime = refl; number = refl; outlets = told_set told_out t.outlets.items c.index.result.now c.index_mut.result.now c.put.new.self was c.put.ensures.told; inlets = λ k. refl }
+
+pub returns-else-branch-clause-further : goal.returns-else-branch-clause-further
+returns-else-branch-clause-further g c = stays_put c.args.self.now _ refl
 
 pub returns-else-branch-clause-made : goal.returns-else-branch-clause-made
 returns-else-branch-clause-made g c =
