@@ -51,6 +51,13 @@ no_word [] c place e = refl
 no_word (words ∷ inputs) zero place e = cc
 no_word (words ∷ inputs) (suc c) place e = no_word inputs c place e
 
+-- what is so of a body is so of the one with its number
+pub same_body : {X : Type 0} (P : X → Type 0) (bodies : List X) (p : ℕ) (body other : X) → slice_get bodies p ≡ Some body → slice_get bodies p ≡ Some other → P body → P other
+same_body P bodies p body other there is h =
+    let both : Some body ≡ Some other = sym there ∙ is in
+    let same : body ≡ other = cc in
+    subst P same h
+
 -- the body of a proc of the run
 module _ {X : Type 0} (behavior : X → Behavior) (heads : List ProcHead) (bodies : List X) (p : ℕ) (proc : Proc) (e : slice_get (procs_of heads (map behavior bodies)) p ≡ Some proc) where
   pub body_there : (body : X) → slice_get bodies p ≡ Some body → behavior body ≡ proc.behavior

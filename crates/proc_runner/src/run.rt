@@ -24,6 +24,9 @@ fn bodies_keep_types<B: Body>(_bodies: &[B])
 /// The outcome is that of one thread, however many workers there are, whatever the gate does, and in whatever order the
 /// threads come to their steps. Each worker has a thread of its own, but one worker alone takes none. That it returns is not
 /// claimed: it does where the calls of the queues and the threads do.
+///
+/// Each time that a worker takes a proc, the body is asked once for each event, and at most once more. It works each step of
+/// an activation out at most once in that time.
 pub fn run_threads<B: Body + Sync, R: Threads + Wait + Sync, G: Gate + Sync>(
     rt: &R,
     alloc: Global,
