@@ -3,7 +3,7 @@ ghost use Rattle.proc_task.specs.Moving.{IsTask};
 ghost use Rattle.net_tests.specs.Idle.{idle_run};
 
 use chan_queue::{ChanQueue, Streams};
-use net_core::Event;
+use net_core::{Activation, Event};
 use proc_task::{Runtime, Task};
 use std::alloc::{AllocError, Global};
 use std::test::Fail;
@@ -32,6 +32,12 @@ impl<'a> Runtime<NoWords> for Idle<'a> {
 
     ghost lines = { λ runtime. runtime.lines.now };
 
+    ghost keeps = { λ _ _ _ _ _ _. Unit {0} };
+
+    ghost begins = { λ _ _ _ _ _ _ _. tt };
+
+    ghost stays = { λ _ _ _ _ _ _ _ _ _ _. tt };
+
     fn activations(&self) -> u32 {
         3
     }
@@ -50,6 +56,7 @@ impl<'a> Runtime<NoWords> for Idle<'a> {
     fn next(
         &self,
         alloc: Global,
+        _kept: &mut Activation,
         _number: u32,
         state: &Value,
         _got: &[Bits],
