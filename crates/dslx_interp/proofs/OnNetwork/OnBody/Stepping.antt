@@ -57,21 +57,6 @@ pub later_goes : (f : Behind → Behind) (got : List Word) (done : ℕ) (old new
 later_goes f got done old new None h = h
 later_goes f got done old new (Some event) h = subst (λ all. Goes f all done old new (Some event)) (append-nil got) (h [] done (omega arith))
 
--- what another step does from where a walk stands, this one does
-pub goes_under : (f g : Behind → Behind) (got : List Word) (done : ℕ) (old mid new : Walk) (ended : Option Event)
-    → ((all : List Word) (later : ℕ) → Goes g all later mid new ended → Goes f all later old new ended) → GoesLater g got done mid new ended → GoesLater f got done old new ended
-goes_under f g got done old mid new None m h = λ more later l. m (got ++ more) later (h more later l)
-goes_under f g got done old mid new (Some event) m h = m got done h
-
-still_from : (old mid new : Walk) → StandsStill old mid → StandsStill mid new → StandsStill old new
-still_from old mid new a b = record { bound = b.bound ∙ a.bound; received = b.received ∙ a.received; site = b.site ∙ a.site }
-
-pub waits_from : (old mid new : Walk) (ended : Option Event) → StandsStill old mid → WaitsIf mid new ended → WaitsIf old new ended
-waits_from old mid new None a h = tt
-waits_from old mid new (Some (Recv i)) a h = still_from old mid new a h
-waits_from old mid new (Some (Send i w)) a h = still_from old mid new a h
-waits_from old mid new (Some (End s)) a h = tt
-
 pub ended_waits : (old new : Walk) (event : Event) → event ≡ End token → WaitsIf old new (Some event)
 ended_waits old new event e = subst (λ x. WaitsIf old new (Some x)) (sym e) tt
 
@@ -271,29 +256,6 @@ module _ (calls : Functions) (e on : CoreExpr) (shape : Shape) (got : List Word)
 
   pub send_is_neither : (new : Walk) → None ≡ condition_at calls on old.bound.items → Goes (send_if calls e (Some on) shape) got done old new (Some (End token))
   send_is_neither new is rest = send_by None is rest ∙ ended_is (done - old.site) old.site
-
--- so it is whatever comes later, from where a walk stands that has looked at the condition
-module _ (calls : Functions) (t : Ty) (on otherwise : CoreExpr) (shape : Shape) (got : List Word) (done : ℕ) (old mid new : Walk) (ended : Option Event) (stays : StandsStill old mid) where
-  pub receive_later_on : Some true ≡ condition_at calls on old.bound.items → GoesLater (receive_on t shape) got done mid new ended → GoesLater (receive_if calls t (Some (on, otherwise)) shape) got done old new ended
-  receive_later_on is h =
-      goes_under (receive_if calls t (Some (on, otherwise)) shape) (receive_on t shape) got done old mid new ended
-      (λ all later k. receive_is_on calls t on otherwise shape all later old new ended is (goes_on_from (receive_on t shape) all later old mid new ended stays k)) h
-
-  pub receive_later_off : Some false ≡ condition_at calls on old.bound.items → GoesLater (receive_off calls otherwise shape) got done mid new ended → GoesLater (receive_if calls t (Some (on, otherwise)) shape) got done old new ended
-  receive_later_off is h =
-      goes_under (receive_if calls t (Some (on, otherwise)) shape) (receive_off calls otherwise shape) got done old mid new ended
-      (λ all later k. receive_is_off calls t on otherwise shape all later old new ended is (goes_on_from (receive_off calls otherwise shape) all later old mid new ended stays k)) h
-
-module _ (calls : Functions) (e on : CoreExpr) (shape : Shape) (got : List Word) (done : ℕ) (old mid new : Walk) (ended : Option Event) (stays : StandsStill old mid) where
-  pub send_later_on : Some true ≡ condition_at calls on old.bound.items → GoesLater (give_then calls e shape) got done mid new ended → GoesLater (send_if calls e (Some on) shape) got done old new ended
-  send_later_on is h =
-      goes_under (send_if calls e (Some on) shape) (give_then calls e shape) got done old mid new ended
-      (λ all later k. send_is_on calls e on shape all later old new ended is (goes_on_from (give_then calls e shape) all later old mid new ended stays k)) h
-
-  pub send_later_off : Some false ≡ condition_at calls on old.bound.items → GoesLater (send_off shape) got done mid new ended → GoesLater (send_if calls e (Some on) shape) got done old new ended
-  send_later_off is h =
-      goes_under (send_if calls e (Some on) shape) (send_off shape) got done old mid new ended
-      (λ all later k. send_is_off calls e on shape all later old new ended is (goes_on_from (send_off shape) all later old mid new ended stays k)) h
 
 -- ---- the end of the steps
 
